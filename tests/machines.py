@@ -104,7 +104,12 @@ class Machines:
         machine = self.machines[number]
         command = ([*machine.member(), *self.member_words] if kind == 'member'
                    else self.companion(number))
-        self.processes[kind, number] = three.start(command, stdout=self.output, stderr=self.output)
+        self.processes[kind, number] = three.start(self.inside(number, command),
+                                                   stdout=self.output, stderr=self.output)
+
+    def inside(self, number, command):
+        """A command as it is run on a machine."""
+        return command
 
     def start_members(self):
         for it in self.machines:
@@ -113,7 +118,7 @@ class Machines:
     def start_all(self):
         self.start_members()
         for it in self.machines.values():
-            three.begin(it, self.first)
+            three.until_done(self.inside(it.number, it.begin(self.first)))
             self.start('companion', it.number)
         self.wait_for_all()
 
@@ -142,11 +147,19 @@ class Machines:
         return {}
 
     def address(self, number):
-        host, port = self.machines[number].terminals.split(':')
+        host, port = self.terminals(number).split(':')
         return host, int(port)
 
+    def terminals(self, number):
+        """Where a machine's terminals come, as they are reached from here."""
+        return self.machines[number].terminals
+
+    def etcd(self, number):
+        """Where its member is."""
+        return self.machines[number].etcd
+
     def reach(self, number):
-        host, port = self.machines[number].etcd.split(':')
+        host, port = self.etcd(number).split(':')
         return etcd.Reach(host, int(port))
 
     def list(self, number=1):
@@ -155,9 +168,8 @@ class Machines:
 
     def companion_does(self, number, *words):
         """Runs a command of the companion; gives its status and what it reported."""
-        machine = self.machines[number]
         done = subprocess.run([sys.executable, THREE / 'companion.py', *words, '--etcd',
-                               machine.etcd], capture_output=True, text=True, timeout=PATIENCE)
+                               self.etcd(number)], capture_output=True, text=True, timeout=PATIENCE)
         return done.returncode, done.stdout + done.stderr
 
     def said(self):
@@ -169,7 +181,10 @@ class Machines:
         return children_of(pid) if kind == 'room' else [pid]
 
     def signal(self, kind, number, what):
-        for it in self.process_ids(kind, number):
+        self.signal_all(self.process_ids(kind, number), what)
+
+    def signal_all(self, pids, what):
+        for it in pids:
             with contextlib.suppress(ProcessLookupError):
                 os.kill(it, what)
 

@@ -1,5 +1,5 @@
-"""Forty terminals for the tests of three machines: call takers, crews and desks that ask without
-end, at one machine and then at the next, and keep what they were answered."""
+"""Forty terminals for the tests of three machines, or up to 64: call takers, crews and desks that
+ask without end, at one machine and then at the next, and keep what they were answered."""
 import collections
 import contextlib
 import dataclasses
@@ -14,7 +14,8 @@ import time
 
 from room import fleet_of, message
 
-POSITIONS, CREWS, DESKS = range(1, 21), range(1, 17), range(1, 5)
+POSITIONS, CREWS, DESKS = range(1, 45), range(1, 17), range(1, 5)
+MANY = 40
 PATIENCE = 2.0  # seconds that a terminal waits for one machine, and twice as long for the next
 MOST_PATIENCE = 16.0
 ASKS_FOR = 180.0  # seconds
@@ -74,6 +75,7 @@ class Terminal(threading.Thread):
         self.pause = pause
         self.at = chance.randrange(len(addresses))
         self.answered, self.unanswered = [], 0
+        self.given_up = []  # what was sent without an answer, and whether that is kept
         self.sent = collections.defaultdict(list)  # the moments at which a message was sent
 
     def run(self):
@@ -92,6 +94,7 @@ class Terminal(threading.Thread):
             if found and found[1] != 503:
                 self.answered.append(Answered(sent, *found, asked, ended, ended - began))
                 return
+            self.given_up.append((sent, json.loads(found[2])['kept'] if found else 'perhaps'))
             self.at = (self.at + 1) % len(self.addresses)
             time.sleep(0.05)
         self.unanswered += 1
@@ -165,11 +168,14 @@ class Desk(Terminal):
         return message(self.token, f'POST {path}', body)
 
 
-def terminals(addresses, stopped, pause, chance):
-    """Forty terminals."""
-    kinds = [(Taker, POSITIONS), (Crew, CREWS), (Desk, DESKS)]
+def terminals(addresses, stopped, pause, chance, count=MANY):
+    """So many terminals: of forty, twenty are call takers, sixteen crews and four desks."""
+    kinds = [*((Taker, it) for it in POSITIONS[:20]), *((Crew, it) for it in CREWS),
+             *((Desk, it) for it in DESKS)]
+    random.Random(1992).shuffle(kinds)
+    kinds += [(Taker, it) for it in POSITIONS[20:]]
     return [kind(number, addresses, random.Random(chance.random()), stopped, pause)
-            for kind, numbers in kinds for number in numbers]
+            for kind, number in kinds[:count]]
 
 
 def asked_while(meanwhile, addresses, pause, chance):

@@ -13,6 +13,19 @@ DESKS = TOP / 'examples' / 'desks'
 PLACES = DESKS / 'places.csv'
 PAGES = {'taker': 'taker.html', 'desk': 'allocator.html', 'crew': 'crew.html'}
 SIGNED = "return [location.pathname, document.querySelector('#refused')?.textContent]"
+# All that the browser keeps, as one text.
+LEFT = """return new Promise((resolve) => {
+  const request = indexedDB.open('desks outbox');
+  request.onsuccess = () => {
+    const names = ['messages', 'last'];
+    const stores = request.result.transaction(names);
+    const found = names.map((name) => stores.objectStore(name).getAll());
+    stores.oncomplete = () => {
+      request.result.close();
+      resolve(JSON.stringify([found.map((it) => it.result), { ...localStorage }]));
+    };
+  };
+});"""
 TARGET = 44  # pixels, what a finger needs
 PHONE = 390, 844
 

@@ -1,12 +1,13 @@
 """The day of examples/1992 at a small size: what the room answers keeps its promises as seen from
-outside, the list that is kept plays the day once more, the model with all promises is the room,
-each promise that is turned moves a figure of the page, and what is kept of the table's days is what
-comes of them. The whole day, ten seeds and all days of the table with --all."""
+outside, the list that is kept plays the day once more, the model with all promises answers as the
+room, each promise that is turned moves a figure of the page, and what is kept of the table's days
+is what comes of them. Whole days, and all days of the table, with --all."""
 # needs: python3
 # builds: dispatch_room
 import dataclasses
 import functools
 import html.parser
+import json
 import os
 import pathlib
 import shutil
@@ -19,16 +20,18 @@ from room import PROGRAM, TOP, TestCase
 FOLDER = TOP / 'examples' / '1992'
 sys.path += [str(FOLDER), str(TOP / 'examples' / 'three')]
 
+import agreement  # noqa: E402
 import digest  # noqa: E402
 import page  # noqa: E402
 import parameters  # noqa: E402
+import people  # noqa: E402
 import promises  # noqa: E402
 import runs  # noqa: E402
 import summary  # noqa: E402
 import table  # noqa: E402
 from logs import Log, Queue  # noqa: E402
 from model import Model  # noqa: E402
-from proved_room import Exchange, ProvedRoom, desk  # noqa: E402
+from proved_room import Exchange, desk  # noqa: E402
 from rooms import Line  # noqa: E402
 from watched import Watch  # noqa: E402
 from world import World  # noqa: E402
@@ -37,8 +40,16 @@ EVERY = 'EVERY_PLACE' in os.environ  # tests/run --all
 TENTH = {'calls': 160, 'other_calls': 80, 'vehicles': 34, 'side': 32, 'look': 300, 'desks': 2}
 SMALL = {'calls': 40, 'other_calls': 5, 'vehicles': 18, 'side': 32, 'look': 600, 'desks': 2}
 RATE = 2  # so that a tenth of a day has enough of each error
+# Calls at a second, so many metres to the east, of a class, that need so many vehicles.
+CALLS = [(0, 0, 2, 1), (0, 4000, 3, 1), (0, 8000, 1, 1), (0, 12_000, 1, 1), (900, 200, 1, 2),
+         (900, -201, 3, 1), (901, 4000, 2, 1)]
+# Where vehicles are on duty, and until when; two are equally near but for less than a metre.
+SHIFTS = {'A001': (0, 1, 0), 'A002': (100, 13, 9000), 'A003': (2000, 0, 5000),
+          'A004': (100, 4, 9000)}
+HOMES = {8999: 'A002', 9000: 'A004'}  # who presses Home when, and who is stood down
+STANDS_DOWN = {4999: 'A003'}
+LOOKS = (0, 60, 61, 180, 181, 480, 481, 840, 841, 900, 901, 3600, 3601, 4999, 5000, 8999, 9000)
 SEEN = {'call_once', 'desk_alike', 'report_once', 'sent_once'}
-SEEDS = range(10) if EVERY else [0]
 
 
 class Recorder(Watch):
@@ -60,19 +71,18 @@ class Recorder(Watch):
 
 def in_model(settings, kept):
     """A day in the model."""
-    world = World(settings, 1, lambda it: Model(it, kept))
-    world.play()
-    return world
+    return World(settings, 1, lambda it: Model(it, kept)).play()
 
 
 def in_room(settings, folder):
-    """The same in the room."""
-    world = World(settings, 1, functools.partial(ProvedRoom, program=PROGRAM, folder=folder))
+    """The same in the room, with the model beside it."""
+    world = World(settings, 1, functools.partial(agreement.Both, program=PROGRAM, folder=folder))
     world.watch = Recorder(lambda name: desk(world.crews[name].division),
                            lambda place: desk(world.city.division_of(place)))
-    world.desks.room.room.see = world.watch.see
+    played = world.desks.room.room.room
+    played.see = world.watch.see
     world.play()
-    world.desks.room.room.end()
+    played.end()
     return world
 
 
@@ -121,13 +131,12 @@ class Day(TestCase):
         self.check('the room', digest.of_file(copy), digest.of_file(self.kept / 'room.db'))
 
     def test_model(self):
-        """The model with all promises comes to the room's figures, stopped and begun again or not;
-        without one it doesn't."""
-        room, model = (summary.figures(it) for it in
-                       (self.world, in_model(self.settings, promises.KEPT)))
-        for name, wanted in room.items():
-            self.check(name, model[name], wanted)
-        other = summary.figures(in_model(self.settings, frozenset()))
+        """The model with all promises answers as the room, and comes to the same; without one it
+        doesn't."""
+        self.check('what it answers otherwise', self.world.desks.room.parted[:1], [])
+        room, model, other = (summary.figures(it) for it in (
+            self.world, *(in_model(self.settings, it) for it in (promises.KEPT, frozenset()))))
+        self.check('figures', model, room)
         self.check('1992', other == room, False)
 
     # ---- each check fails on what must fail
@@ -204,16 +213,48 @@ class Day(TestCase):
 
 class Seeds(TestCase):
     def test_seeds(self):
-        """Days that draw every number from its range, in the room and in the model."""
-        for seed in SEEDS:
-            found = parameters.drawn(SMALL, seed)
-            settings = parameters.at_rate(found, 3)
-            folder = self.folder / str(seed)
-            folder.mkdir()
-            room = summary.figures(in_room(settings, folder))
-            model = summary.figures(in_model(settings, promises.KEPT))
-            for name, wanted in room.items():
-                self.check(f'seed {seed}: {name}', abs(model[name] - wanted) <= 0.02 * wanted, True)
+        """Days that draw every number from its range, in the room and in the model; each other one
+        is as before that day, with three divisions and with crews that are asked first."""
+        for seed in range(10):
+            before = {'divisions': 3, 'binding': 0} if seed % 2 else {}
+            settings = parameters.drawn(before if EVERY else SMALL | before, seed)
+            both, room, model = agreement.day(parameters.at_rate(settings, 3), PROGRAM)
+            self.check(f'seed {seed}: answers otherwise', both.parted[:1], [])
+            self.check(f'seed {seed}: figures', model, room)
+
+
+class Edges(TestCase):
+    def test_edges(self):
+        """Each metre and second at which a rule begins to hold, for a day seldom comes to it."""
+        settings = parameters.at_rate(parameters.values({'vehicles': len(SHIFTS)}), 0)
+        self.world = World(settings, 1, functools.partial(agreement.Both, program=PROGRAM,
+                                                          folder=self.folder))
+        room, (east, north) = self.world.desks.room, people.MIDDLE
+        for name, (to_east, to_north, until) in SHIFTS.items():
+            self.world.crews[name].until = until
+            room.on_duty(self.world.crews[name], (east + to_east, north + to_north))
+        for self.world.now in LOOKS:
+            for nth, (at, to_east, grade, needs) in enumerate(CALLS):
+                if at == self.world.now:
+                    room.call(people.Call(nth, (east + to_east, north), grade, needs))
+            self.go_on(room)
+        room.room.room.end()
+        self.check('what the model answers otherwise', room.parted, [])
+
+    def go_on(self, room):
+        """A crew presses Home or is stood down, the desk looks at its list, and sends whom it
+        can."""
+        home, free = (self.world.crews.get(it.get(self.world.now)) for it in (HOMES, STANDS_DOWN))
+        if home:
+            room.report(home, people.Report(1, 'home', 0, home.home))
+        if free:
+            room.stand_down(free)
+            room.terminal(free)
+        room.lines(1)
+        room.vehicles(1)
+        for it in room.lacking(1):
+            if name := room.proposed(it):
+                room.mobilise(it, name)
 
 
 class Command(TestCase):
@@ -256,7 +297,9 @@ class Command(TestCase):
             self.check(f'{words}', (found, wanted in printed), (status, True))
 
     def test_clauses(self):
-        """Each clause and its edit are there; one that is not is refused."""
+        """Each clause and its edit are there, and the prover's refusal; what is not is refused."""
+        self.check('refusals', list(json.loads(page.VERDICTS.read_text())),
+                   [edit for it in promises.ALL for _, edit in it.clauses])
         for it in promises.ALL:
             links = Links(page.clauses(it, self.folder)).found
             self.check(f'{it.name}: links', len(links), 2 * len(it.clauses))
@@ -290,11 +333,16 @@ class Switches(TestCase):
         return {name: found[name] for name in summary.SHOWN}
 
     def test_each_moves_a_figure(self):
+        """And each figure is moved by a promise: none is a constant."""
+        few = {'screen': 3, 'vehicles': 24}
         for side, kept in (('room', promises.KEPT), ('1992', frozenset())):
-            base = self.figures(kept, screen=3)
+            base, moved = self.figures(kept, **few), set()
             for it in promises.ALL:
-                turned = self.figures(kept ^ {it.name}, screen=3)
-                self.check(f'{side}, {it.name}', turned == base, False)
+                turned = self.figures(kept ^ {it.name}, **few)
+                found = {name for name in base if turned[name] != base[name]}
+                self.check(f'{side}, {it.name}', found == set(), False)
+                moved |= found
+            self.check(f'{side}: what moves', moved, set(base))
 
     def test_what_each_moves(self):
         base = self.figures(promises.KEPT)

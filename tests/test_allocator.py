@@ -196,14 +196,22 @@ def posted(room):
 def history(number, name, scene=None, note=''):
     """An incident as the paths of history give it: a second call made it urgent after the order."""
     def call(serial, level, age, **more):
-        return {'class': level, 'linked': serial > 1, 'moment': NOW - age, 'needs': [1, 0, 0],
-                'note': note, 'place': [530000, 180000], 'position': 1, 'serial': serial} | more
+        return {'class': level, 'given': number, 'linked': serial > 1, 'moment': NOW - age,
+                'needs': [1, 0, 0], 'note': note, 'place': [530000, 180000], 'position': 1,
+                'serial': serial} | more
 
-    turn = {'acknowledged': NOW - 890, 'ended': None, 'hospital': None, 'kind': 1, 'left': None,
-            'order': 1, 'ordered': NOW - 900, 'scene': scene, 'stood_down': False, 'vehicle': name}
+    turn = {'acknowledged': NOW - 890, 'ended': None, 'hospital': None, 'incident': number,
+            'kind': 1, 'left': None, 'order': 1, 'ordered': NOW - 900, 'scene': scene,
+            'stood_down': False, 'vehicle': name}
     return {'calls': [call(1, 2, 1000), call(2, 1, 500)], 'class': 1, 'first_order': NOW - 900,
             'into': None, 'needs': [1, 0, 0], 'number': number, 'opened': NOW - 1000,
             'place': [530000, 180000], 'served': [1, 0, 0], 'state': 0, 'turns': [turn]}
+
+
+def report(number, button, outcome, order, place=(531000, 181000)):
+    """A report of a vehicle as the paths of history give it."""
+    return {'button': button, 'cleared': False, 'moment': NOW - 600, 'number': number,
+            'order': order, 'outcome': outcome, 'place': place, 'status': 4}
 
 
 def many():
@@ -488,6 +496,66 @@ class Played(TestCase):
         until(lambda: BROWSER.is_shown('#incident td'))
         self.check_comes('without history', lambda: [it in words_of('#incident') for it in (
             'This room does not show calls', 'lacks 1 ambulance; A2 at scene')], 2 * [True])
+        BROWSER.press('Escape')
+
+    def test_exceptions(self):
+        """What an exception was, by the vehicle's reports: its button, what came of it, its order,
+        time, number and place. They are asked for once, and again for another exception."""
+        at = time_of(NOW - 600)
+        reports = [report(7, 'leave', 'skipped', 3), report(8, 'position', 'normal', 3)]
+        path = '/vehicles/A1/reports'
+        lists = Lists({f'GET {path}': lambda _: (200, {'reports': reports})},
+                      queue=[entry(4, 7, 'A1'), entry(4, 2, 'A2')],
+                      vehicles=[vehicle('A1'), vehicle('A2')])
+        room = self.show(lists)
+        known = ['A1', f'Leave: skipped, order 3, {at}, report 7', 'TQ 310 810']
+        # (of A2 the room gives nothing: it has no such path)
+        unknown = ['A2', 'report 2 came out of turn', 'TQ 300 800']
+        self.check_comes('what it was', self.exceptions, [known, unknown])
+        self.check_comes('the line in full', lambda: words_of('#line').startswith(
+            f'A1: {known[1]}, TQ 310 810'), True)
+        refresh(2)
+        asked = [path, '/vehicles/A2/reports']
+        self.check('asked for once', self.asked(room), asked)
+        reports.append(report(9, HOSTILE[0], 'stale', 0, (532000, 182000)))
+        lists.lists['queue'] = [entry(4, 2, 'A2'), entry(4, 9, 'A1')]
+        self.check_comes('another', self.exceptions, [unknown, [
+            'A1', f'{HOSTILE[0]}: stale, no order, {at}, report 9', 'TQ 320 820']])
+        self.check('asked for again', self.asked(room), [*asked, path])
+        self.check('never two at once', room.most, 1)
+
+    def exceptions(self):
+        return [it[2:] for it in rows('queue')]
+
+    def asked(self, room):
+        """The paths of reports that the room was asked for."""
+        return [it[1] for it in room.asked if it[1].endswith('/reports')]
+
+    def test_merged(self):
+        """Calls and turns that came with a merged incident say so, and lead there; from there a way
+        leads to where it went."""
+        into, merged = history(4, 'A2'), history(7, 'A3') | {'calls': [], 'into': 4, 'state': 2}
+        into['calls'][1] |= {'given': 7, 'place': [530000, 181000]}
+        into['turns'] += merged['turns']
+        into['turns'][1] |= {'ended': NOW - 600, 'stood_down': True}
+        self.show(Lists({'GET /incidents/4': (200, into), 'GET /incidents/7': (200, merged)},
+                        incidents=[incident(4)]))
+        BROWSER.press('3', 'o')
+        until(lambda: BROWSER.is_shown('#incident td'))
+        self.check('calls', [it[6] for it in cells(1)],
+                   ['first', 'linked, 1.0 km, came with incident 7'])
+        self.check('turns', [it[-1] for it in cells(2)], [
+            'its order does not say class 1', 'stood down, came with incident 7'])
+        self.check('names', nameless(BROWSER) + repeated(BROWSER), [])
+        self.check('focus', unseen_focus(BROWSER), [])
+        BROWSER.click('#incident table:nth-of-type(2) a')
+        self.check_comes('there', lambda: words_of('#incident h2'), 'Incident 7')
+        self.check_comes('where it went', lambda: words_of('#incident .tables p'),
+                         'It was merged into incident 4, and its calls with it.')
+        self.check('its own turn', [it[-1] for it in cells(2)], ['stood down'])
+        self.check('contrast', weak_texts(BROWSER), [])
+        BROWSER.press('Tab', 'Enter')
+        self.check_comes('and back', lambda: words_of('#incident h2'), 'Incident 4')
         BROWSER.press('Escape')
 
     def test_find(self):

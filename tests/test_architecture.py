@@ -40,6 +40,7 @@ HOLDS = {
         'room_types/src/asks': 'Ask', 'room_types/src/answers': 'pub enum Answer',
         'room_model/specs/Step': 'decided', 'room_model/specs/WorkingRows': 'working',
         'room_store_reads/src/request_reads': 'match', 'room_model/proofs/AskLaws': 'Ask',
+        'dispatch_room_archive/specs/Continuation': 'ask.Times',
         'room_http/specs/AnswerJson': 'answer', 'room_http/src/answer_json': '"rank"'},
     'a path or a body': {
         'room_http_requests/specs/RequestTable': 'pattern_of',

@@ -153,6 +153,7 @@ BESIDE = {
         'examples/1992/play.py FOLDER': ('1992', 'play.py'),
         'examples/1992/play.py FOLDER --map-rate 1 --set slow=0 --set screen=40': ('1992', '--set'),
         'examples/1992/table.py && tools/pictures.py': ('1992', 'runs.write'),
+        'examples/1992/agreement.py': ('1992', 'agreement.day'),
         'examples/1992/november.py': ('november', "'november.py'"),
         'cp FOLDER/before.db copy.db': ('1992', "'before.db'")},
     'examples/backup': {
@@ -181,14 +182,15 @@ BESIDE = {
         'scrape_configs:': ('metrics', 'scrape_configs')},
     'examples/three': {
         'sudo apt install etcd-server && sudo systemctl disable --now etcd     etcd, but not '
-        "Debian's single member of it": ('three', 'three.begin'),
+        "Debian's single member of it": ('three', 'three.until_done'),
         'prepare.py prepared 192.0.2.1 192.0.2.2 192.0.2.3': ('three_network', "'prepare.py'"),
         'sudo apt install etcd-server && sudo systemctl disable --now etcd':
             ('three_network', "'*.service'"),
         '. /etc/dispatch-room-three/companion.env': ('three_network', "'user'"),
         'companion.py begin room.db /var/lib/dispatch-room-three/room $REACH':
             ('three_network', "'begin'"),
-        'companion.py enrol fleet.csv $REACH': ('three_rooms', "'enrol'"),
+        'companion.py import fleet.csv $REACH':
+            ('three_changes', "'import'"),
         'companion.py replace 3 $REACH': ('three_network', "'replace'"),
         'companion.py drop-list $REACH': ('three_repair', "'drop-list'"),
         'prepare.py prepared 192.0.2.1 192.0.2.2 192.0.2.3 --renew':

@@ -12,7 +12,7 @@ import time
 
 from browser import ELEMENT, Line, of_module, until
 from documents import table_of_buttons
-from pages import PHONE, companion, faults_everywhere, sign_in
+from pages import LEFT, PHONE, companion, faults_everywhere, sign_in
 from room import TOP, TestCase, ask, call, free_port, made, message, serving, sql
 
 EVERY = 'EVERY_PLACE' in os.environ
@@ -36,19 +36,6 @@ GIVEN_LAST = """return new Promise((resolve) => {
     const store = request.result;
     const last = store.transaction('last').objectStore('last').get('/report crewofa1');
     last.onsuccess = () => { store.close(); resolve(last.result.number); };
-  };
-});"""
-# All that the browser keeps, as one text.
-LEFT = """return new Promise((resolve) => {
-  const request = indexedDB.open('desks outbox');
-  request.onsuccess = () => {
-    const names = ['messages', 'last'];
-    const stores = request.result.transaction(names);
-    const found = names.map((name) => stores.objectStore(name).getAll());
-    stores.oncomplete = () => {
-      request.result.close();
-      resolve(JSON.stringify([found.map((it) => it.result), { ...localStorage }]));
-    };
   };
 });"""
 BROWSER = None

@@ -10,11 +10,15 @@ import socket
 import ssl
 import subprocess
 import sys
+import threading
 import time
 
 import nginx
 from pages import DESKS, PLACES, companion
 from room import PATIENCE, PLAN, TOP, TestCase, free_port, made, serving
+
+sys.path.append(str(DESKS))
+import desks  # noqa: E402
 
 CALL = '{"class":2,"needs":[1,0,0],"note":"","place":"TQ300800","serial":1}'
 CALLED = '{"division":1,"incident":1,"linked":false}'
@@ -173,6 +177,58 @@ class Companion(Asked):
                                   stdin=subprocess.DEVNULL, capture_output=True, timeout=60)
             self.check(f'{what} is refused', done.returncode, 2)
         self.check('it says where', f'{bad}:2: wanted name,place' in done.stderr.decode(), True)
+
+
+class Machine(threading.Thread):
+    """One of the machines that are one room, which gives the same answer to all, or breaks off."""
+
+    def __init__(self, answer):
+        super().__init__(daemon=True)
+        self.answer, self.asked = answer, 0
+        self.listening = socket.create_server(('127.0.0.1', 0))
+        self.address = self.listening.getsockname()
+        self.start()
+
+    def run(self):
+        while True:
+            connection, _ = self.listening.accept()
+            with connection:
+                connection.recv(65536)
+                self.asked += 1
+                connection.sendall(self.answer)
+
+
+def answer(status, content):
+    return b'HTTP/1.1 %d X\r\nContent-Length: %d\r\n\r\n%b' % (status, len(content), content)
+
+
+class Machines(TestCase):
+    def check_asked(self, what, line, first, wanted):
+        """Whether the second machine is asked where the first gives such an answer."""
+        one, two = Machine(first), Machine(answer(200, b'{}'))
+        rooms = [one.address, two.address]
+        found = desks.ask(rooms, *line.split(), 'deskone1', b'{}')
+        self.check(f'{what}: {line}', (found[0], two.asked), wanted)
+        self.check('the second is asked first from then on', rooms[0] == two.address,
+                   first != answer(409, b'{}'))
+
+    def test_next(self):
+        no, perhaps = (answer(503, b'{"error":"NoAnswer","kept":"%b"}' % it)
+                       for it in (b'no', b'perhaps'))
+        calls, deed = ('GET /queue', 'POST /call', 'POST /report'), 'POST /vehicles/A1/recall'
+        for what, first, status in [('not kept', no, 200), ('perhaps kept', perhaps, 503),
+                                    ('it breaks off', b'', 504)]:
+            for line in calls:
+                self.check_asked(what, line, first, (200, 1))
+            self.check_asked(what, deed, first, (status, int(status == 200)))
+        self.check_asked('a refusal', deed, answer(409, b'{}'), (409, 0))
+
+    def test_none(self):
+        gone = '127.0.0.1', free_port()
+        there = Machine(answer(200, b'{}'))
+        for rooms, wanted in ([gone], 502), ([gone, gone], 502), ([gone, there.address], 200):
+            found = desks.ask(rooms, 'POST', '/vehicles/A1/recall', 'deskone1', None)
+            self.check(f'{len(rooms)} machines', found[0], wanted)
 
 
 class Nginx(Asked):

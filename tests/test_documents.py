@@ -14,7 +14,7 @@ from documents import FENCED, crates, pages, sentences
 from room import TOP, TestCase
 
 # How many words a document has at most, as `wc -w` counts them.
-MOST = {'README': 700, 'CONTRIBUTING': 450, 'SECURITY': 350, 'CHANGELOG': 920, 'TUTORIAL': 800,
+MOST = {'README': 700, 'CONTRIBUTING': 450, 'SECURITY': 350, 'CHANGELOG': 1100, 'TUTORIAL': 800,
         'OPERATING': 2970, 'RULES': 2410, 'HTTP': 2750, 'FILES': 3220, 'ARCHITECTURE': 1430,
         'DECISIONS': 3070, 'JUDGING': 650, 'PROOFS': 2910, 'PROMISES': 6800, 'SCALE': 600,
         'TESTING': 750, 'TRUST': 1900, 'WORKING': 580}

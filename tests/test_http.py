@@ -89,6 +89,7 @@ BEFORE = [
     ('GET /incidents/1', [ANEW, call(1)]),
     ('GET /last', [duty('A1'), mobilise('A1'), report('mobile', 1)]),
     ('GET /last', []),
+    ('GET /vehicles/A1/reports', [report('leave', 2)]),
     ('POST /vehicles/B1/off', [ANEW]),
 ]
 

@@ -1,5 +1,5 @@
 """What examples/1992/november.py does, at a small size: the room's memory does not grow with the
-vehicles that are sent, and where the first of three machines is killed no order is lost."""
+vehicles that are sent, and where that of three machines is killed which leads, no order is lost."""
 # needs: python3 etcd-server
 # builds: dispatch_room
 import json

@@ -83,7 +83,7 @@ class Document(OperatingTestCase):
 
     def test_faults(self):
         """Each fault that the program reports is in the table."""
-        endings = TOP / 'crates' / 'dispatch_room_cli' / 'src' / 'exit_status.rt'
+        endings = TOP / 'crates' / 'dispatch_room_exit' / 'src' / 'exit_status.rt'
         faults = re.findall(r'#\[error\("(.*)"\)\]', endings.read_text())
         self.check('there are faults', 'storage' in faults, True)
         for fault in faults:

@@ -23,8 +23,8 @@ COMPLETION = 'usr/share/bash-completion/completions/dispatch_room'
 ROTATION = 'etc/logrotate.d/dispatch-room'
 OF_DEBIAN = [f'{DOCUMENTS}/{it}' for it in ('copyright', 'changelog.gz', 'changelog.Debian.gz')]
 EXAMPLES = TOP / 'examples'
-SCRIPTS = ['1992/november.py', '1992/play.py', '1992/table.py', 'backup/backup.py', 'change.sh',
-           'day.sh', 'desks/desks.py',
+SCRIPTS = ['1992/agreement.py', '1992/november.py', '1992/play.py', '1992/table.py',
+           '1992/verdicts.py', 'backup/backup.py', 'change.sh', 'day.sh', 'desks/desks.py',
            'haproxy/certificates.sh', 'metrics/metrics.py', 'month/month.sh', 'three/companion.py',
            'three/prepare.py', 'three/three.py', 'wall/wall.py', 'weekly/renew.sh',
            'weekly/times.sh']
@@ -294,7 +294,7 @@ class Package(TestCase):
         shown = subprocess.run(['groff', '-man', '-Tascii', '-P-cbou'], input=source,
                                capture_output=True, timeout=180).stdout.decode()
         part = ' '.join(shown.partition('DIAGNOSTICS')[2].partition('\nFILES')[0].split())
-        endings = TOP / 'crates' / 'dispatch_room_cli' / 'src' / 'exit_status.rt'
+        endings = TOP / 'crates' / 'dispatch_room_exit' / 'src' / 'exit_status.rt'
         faults = re.findall(r'#\[error\("(.*)"\)\]', endings.read_text())
         self.check('there are faults', 'storage' in faults, True)
         for fault in faults:

@@ -12,7 +12,7 @@ import subprocess
 import time
 
 from browser import Line, of_module, until
-from pages import companion, faults_everywhere, sign_in
+from pages import LEFT, companion, faults_everywhere, sign_in
 from room import PATIENT, TOP, TestCase, ask, call, free_port, made, message, serving, sql
 
 EVERY = 'EVERY_PLACE' in os.environ
@@ -31,6 +31,13 @@ IS_LOADED = """const names = performance.getEntriesByType('resource').map((it) =
 return ['/room/last', '/data/areas.json', '/data/places.json'].every((path) =>
   names.some((it) => it.endsWith(path)));"""
 DRAWN = '#map .areas *'  # what it draws last as it opens
+# Why a browser keeps no call, and in which method of its store that comes; and what makes it fail.
+UNKEPT = [('IDBObjectStore', 'add', 'The disk is full.'),
+          ('IDBDatabase', 'transaction', 'The database connection is closing.')]
+FAILS = """const [owner, method, why] = arguments, { prototype } = window[owner];
+const { [method]: was } = prototype;
+window.mend = () => { prototype[method] = was; };
+prototype[method] = () => { throw new DOMException(why, 'InvalidStateError'); };"""
 
 
 class Keys:
@@ -189,28 +196,51 @@ class Calls(Served):
         self.check('sent anew', answer('NEW', 2)[:2], ['NEW', 'Division 1, incident 1'])
         self.check('with its note', self.calls('serial, class, note'), ['2|1|caller is <lost>'])
 
-    def test_full_store(self):
-        """A call that the browser can't keep stays in the form, and the page says so where the
-        answer before stood; an Enter held down sends one call."""
+    def test_unkept(self):
+        """A call that the browser can't keep, for its disk is full or its data was cleared, stays
+        in the form, and the page says so where the answer before stood; an Enter held down sends
+        one call."""
         self.sign_in()
-        send_call('TQ300800', '2', 'the first')
+        send_call('TQ300800', '2', 'call 1')
         answer('NEW')
-        BROWSER.run("const add = IDBObjectStore.prototype.add; window.mend = () => "
-                    "{ IDBObjectStore.prototype.add = add; };"
-                    "IDBObjectStore.prototype.add = () => "
-                    "{ throw new DOMException('The disk is full.', 'QuotaExceededError'); };")
-        send_call('TQ400800', '1', 'the second')
-        self.check('it is said', answer('NOT SENT')[:2], [
-            'NOT SENT',
-            'This browser could not keep the call: The disk is full. The form still has it.'])
         form = "return ['place', 'note'].map((it) => document.getElementById(it).value)"
-        self.check('the form has it', BROWSER.run(form), ['TQ400800', 'the second'])
-        self.check('the call before is listed', kept(), 1)
-        BROWSER.run('mend()')
-        BROWSER.press('Enter', 'Enter')
-        self.check('then it is sent', answer('NEW', 2)[:2], ['NEW', 'Division 1, incident 2'])
-        self.check('and the form is empty', BROWSER.run(form), ['', ''])
-        self.check('once', self.calls('note'), ['the first', 'the second'])
+        for nth, (owner, method, why) in enumerate(UNKEPT, start=2):
+            place, note = f'TQ{300 + 30 * nth}800', f'call {nth}'
+            BROWSER.run(FAILS, owner, method, why)
+            send_call(place, '1', note)
+            self.check(f'{why} It is said', answer('NOT SENT')[:2], [
+                'NOT SENT', f'This browser could not keep the call: {why} The form still has it.'])
+            self.check(f'{why} The form has it', BROWSER.run(form), [place, note])
+            self.check(f'{why} The calls before are listed', kept(), nth - 1)
+            BROWSER.run('mend()')
+            BROWSER.press('Enter', 'Enter')
+            self.check(f'{why} Then it is sent', answer('NEW', nth)[:2],
+                       ['NEW', f'Division 1, incident {nth}'])
+            self.check(f'{why} And the form is empty', BROWSER.run(form), ['', ''])
+        self.check('once', self.calls('note'), ['call 1', 'call 2', 'call 3'])
+
+    def test_sign_out(self):
+        """Signing out is refused while a call waits, and leaves neither token nor calls."""
+        self.sign_in()
+        self.stack.close()
+        send_call('TQ300800', '2', 'key code 4711')
+        answer('WAITING')
+        self.leave()
+        self.check_comes('it is refused', lambda: BROWSER.text('#refused'), 'The call taker is not '
+                         'signed out: what waits to be sent would be lost (1). Open its page until '
+                         'the room has answered.')
+        self.stack.enter_context(serving(self.file, 99999, port=self.room_port))
+        BROWSER.open(f'{self.address}desks/taker.html')
+        self.check('it is sent', answer('NEW')[:2], ['NEW', 'Division 1, incident 1'])
+        self.check('it was kept', '4711' in BROWSER.run(LEFT), True)
+        self.leave()
+        self.check_comes('signed out', lambda: BROWSER.all('#signed li'), [])
+        left = BROWSER.run(LEFT)
+        self.check('nothing is left', [it for it in ('takerone', '4711') if it in left], [])
+
+    def leave(self):
+        BROWSER.open(f'{self.address}desks/index.html#taker')
+        BROWSER.click('#signed button')
 
     def test_everyone(self):
         self.sign_in()

@@ -1,80 +1,73 @@
-"""One room on three machines by examples/three: members of etcd, companions and rooms on loopback
-that are killed, held and misled in turn, while forty terminals ask. What was answered stands in
-the list where its answer says, nothing stands there twice, and the three rooms are one: that of a
-replay of the list. Each fault once, or with --all for ten minutes."""
-# needs: etcd-server sqlite3
+"""One room on three machines by examples/three, as a stranger tries it: machines in networks of
+their own, with small disks, to which faults come at random while forty terminals ask. What was
+answered makes one list that fits real time, each word on what was not is true, and the three rooms
+are one: that of a replay of the list. For a minute, with --all for ten; the variables SEED and
+SECONDS choose others."""
+# needs: etcd-server sqlite3 iproute2 mount
 # builds: dispatch_room
-import contextlib
+import os
 import random
 import socket
-import threading
 
-from disturbed import Faults
+from disturbed import FOLDERS, Faults, small
 from listed import ThreeTestCase
 from many_terminals import asked_while
+from namespaces import Apart, Relay
 from preloaded import EVERY
 
-LASTS = 600 if EVERY else 0  # seconds, and as long as each fault takes once
-AWAY = 8 if EVERY else 1.5  # seconds until what was killed or held is brought back
+SEED = int(os.environ.get('SEED', 1992))
+LASTS = float(os.environ.get('SECONDS', 600 if EVERY else 60))
+AWAY = 4.0  # seconds at most until a fault has a second beside it, and until it ends
 PAUSE = 0.25  # seconds of a terminal between an answer and its next request
-COPY_EVERY = 3000 if EVERY else 200
+COPY_EVERY = 1000
 LOST = 20  # answers of each member
-QUOTA = 48 << 20  # bytes: a small one, which the list would fill within ten minutes
+SIZES = {'room': 64 << 20, 'work': 64 << 20, 'etcd': 400 << 20}  # bytes of file systems
 SEEN = ['--revisions', '10000']  # revisions, until which a witness has seen what is dropped
 
 
 class Disturbed(ThreeTestCase):
     def setUp(self):
         super().setUp()
-        self.machines.member_words = [f'--quota-backend-bytes={QUOTA}']
-        self.machines.words = {it: SEEN for it in self.machines.machines}
+        self.machines.close()
+        self.machines = Apart(self.folder, self.first)
+        self.addCleanup(self.machines.close)
+        for number in self.machines.machines:
+            of = self.folder / str(number)
+            for it in FOLDERS:
+                self.addCleanup(*small(of / it, SIZES[it]))
+            self.machines.words[number] = [*SEEN, '--work', of / 'work']
         self.machines.copy_every, self.machines.deadline = COPY_EVERY, 10
-        self.faults = Faults(self.machines, AWAY)
+        self.faults = Faults(self.machines, AWAY, random.Random(SEED))
+        self.faults.can_part()
+        self.faults.can_fill()
 
     def foreign(self):
         return self.faults.put
 
-    def meanwhile(self):
-        self.faults.all(LASTS)
-        self.machines.until(lambda: self.machines.list().ends()[0] > 0, 'old records are dropped')
-
     def test_faults(self):
         self.machines.start_all()
         witness = self.witness()
-        asking = asked_while(self.meanwhile, self.addresses(), PAUSE, self.chance)
+        asking = asked_while(lambda: self.faults.all(LASTS), self.addresses(), PAUSE, self.chance)
         self.check('all were answered', sum(it.unanswered for it in asking), 0)
         self.end(asking, witness)
         self.check('nothing was missed', witness.fault, '')
+        print(f'{self.faults.count} faults, {sum(len(it.answered) for it in asking)} answers, '
+              f'{sum(len(it.given_up) for it in asking)} requests without one')
 
 
-class Forgetful(threading.Thread):
+class Forgetful(Relay):
     """Stands before a member of etcd, and now and then ends a connection in place of an answer:
     what was asked is done, and the companion does not know it."""
 
     def __init__(self, reach, chance):
-        super().__init__(daemon=True)
-        self.member, self.chance, self.forgotten = (reach.host, reach.port), chance, 0
-        self.listening = socket.create_server(('127.0.0.1', 0))
-        self.address = '127.0.0.1:%d' % self.listening.getsockname()[1]
+        self.chance, self.forgotten = chance, 0
+        super().__init__(lambda: socket.create_connection((reach.host, reach.port)))
 
-    def run(self):
-        while True:
-            near, _ = self.listening.accept()
-            with contextlib.suppress(OSError):
-                far = socket.create_connection(self.member)
-                for it in (near, far, False), (far, near, True):
-                    threading.Thread(target=self.hand_on, args=it, daemon=True).start()
-
-    def hand_on(self, source, sink, is_answer):
-        with contextlib.suppress(OSError):
-            while read := source.recv(65536):
-                if is_answer and self.chance.random() < 0.05:
-                    self.forgotten += 1
-                    break
-                sink.sendall(read)
-        for it in source, sink:
-            with contextlib.suppress(OSError):
-                it.shutdown(socket.SHUT_RDWR)
+    def is_handed_on(self, is_answer):
+        if is_answer and self.chance.random() < 0.05:
+            self.forgotten += 1
+            return False
+        return True
 
 
 class Forgotten(ThreeTestCase):
@@ -84,7 +77,6 @@ class Forgotten(ThreeTestCase):
         before = [Forgetful(self.machines.reach(it), random.Random(it))
                   for it in self.machines.machines]
         for number, it in enumerate(before, 1):
-            it.start()
             self.machines.words[number] = ['--etcd', it.address, *SEEN]
         self.machines.start_all()
         witness = self.witness()

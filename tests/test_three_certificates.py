@@ -3,7 +3,6 @@ while terminals are answered, and taken by companions that are not started again
 # needs: etcd-server sqlite3 openssl faketime
 # builds: dispatch_room
 import http.client
-import json
 import os
 import shutil
 import ssl
@@ -11,9 +10,8 @@ import subprocess
 import sys
 import time
 
-from listed import ThreeTestCase
+from listed import ThreeTestCase, call
 from machines import PATIENCE, THREE, Machines
-from room import message
 
 import certificates
 
@@ -28,11 +26,6 @@ done
 [ "$is_of" ] || exec %(openssl)s "$@"
 exec faketime -f "-$((days * 86400 - %(lasts)d))s" %(openssl)s "$@"
 """
-
-
-def call(serial):
-    body = {'class': 2, 'needs': [1, 0, 0], 'note': '', 'place': 'TQ300800', 'serial': serial}
-    return message('takerat01', 'POST /call', json.dumps(body))
 
 
 class Certificates(ThreeTestCase):

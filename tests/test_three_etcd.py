@@ -2,10 +2,9 @@
 long, and an alarm that is raised nevertheless."""
 # needs: etcd-server sqlite3
 # builds: dispatch_room
-import json
 import re
 
-from listed import AT_END, ThreeTestCase
+from listed import AT_END, ThreeTestCase, call
 from machines import PATIENCE
 from many_terminals import asked_while, exchange
 from room import message
@@ -16,12 +15,6 @@ import kept_list
 QUOTA = 16 << 20  # bytes
 SIZE, AT_ONCE = 1 << 14, 32  # bytes of what fills it, and how many are put at once
 QUESTION = message('deskof01', 'GET /queue')
-
-
-def call(serial):
-    body = {'class': 2, 'needs': [1, 0, 0], 'note': 'x' * 100, 'place': 'TQ300800',
-            'serial': serial}
-    return message('takerat01', 'POST /call', json.dumps(body))
 
 
 class Quota(ThreeTestCase):

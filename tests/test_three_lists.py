@@ -3,12 +3,11 @@ went back behind what the rooms have played."""
 # needs: etcd-server etcd-client sqlite3
 # builds: dispatch_room
 import dataclasses
-import json
 import shutil
 import subprocess
 import unittest.mock
 
-from listed import ThreeTestCase
+from listed import ThreeTestCase, call
 from room import PATIENCE, message
 
 import comparison
@@ -18,11 +17,6 @@ import kept_list
 from entries import Place, Record
 
 QUESTION = message('deskof01', 'GET /queue')
-
-
-def call(serial):
-    body = {'class': 2, 'needs': [1, 0, 0], 'note': '', 'place': 'TQ300800', 'serial': serial}
-    return message('takerat01', 'POST /call', json.dumps(body))
 
 
 class Copies(ThreeTestCase):
@@ -50,7 +44,7 @@ class Entries(ThreeTestCase):
         """An entry is read as it was written, and no other bytes are."""
         place = Place(7, 'a' * 64, 100)
         entry = entries.entry_behind(place, 90, [
-            Record('one-1', call(1)), Record('two', b'oldtoken1 newtoken1', 'token')])
+            Record('one-1', call(1)), Record('two', call(2))])
         self.check('numbers', (entry.first, entry.number, entry.moment), (8, 9, 100))
         self.check('read again', entries.entry_of(entry.text), entry)
         read = []
@@ -154,8 +148,17 @@ class Lists(ThreeTestCase):
             kept.keep(Place(9, first.place.digest, 9), 9, [a])
         second = kept.keep(first.place, 5, [b]).entries[0]
         self.check('the next, at no earlier moment', (second.number, second.moment), (3, 9))
+        revision = kept.read(second.place, True).revision
+        stray = entries.entry_behind(second.place, 9, [a])
+        kept.change([], [kept_list.put(kept_list.key_of(4), stray.text)])
+        other = entries.entry_behind(second.place, 9, [b])
+        asked = kept_list.keeping(second.place, other, revision)
+        self.check('nothing over what was put since',
+                   kept.member.ask(kept_list.TXN, asked).get('succeeded'), None)
+        self.check('it is taken', [kept.read(second.place, True).entries for _ in range(2)],
+                   [[], [stray]])
         kept.drop_before(3)
-        self.check('read on', kept.read(first.place, True).entries, [second])
+        self.check('read on', kept.read(first.place, True).entries, [second, stray])
         with self.assertRaises(kept_list.Lost):
             kept.keep(begun, 9, [a])
         self.check('a list that has gone on is not begun again',
@@ -248,22 +251,26 @@ class Lists(ThreeTestCase):
             self.machines.start('companion', it)
             self.machines.wait_for(it)
         self.check('it has all', self.answered(3, QUESTION)[0], 7)
-        for it in self.machines.machines:
-            self.machines.kill('companion', it)
-            for newer in copies.copies_in(self.machines.machines[it].folder / 'room')[:-1]:
-                newer.file.unlink()
-        copy = copies.copies_in(self.machines.machines[1].folder / 'room')[0].file
-        for it in 2, 3:
-            folder = self.machines.machines[it].folder / 'room'
-            shutil.rmtree(folder)
-            folder.mkdir()
-            shutil.copy(copy, folder / copy.name)
-        for it in self.machines.machines:
-            self.machines.start('companion', it)
+        self.start_from_oldest_copy()
         self.each_refuses(gone)
         self.machines.until(lambda: self.machines.companion_does(1, 'mend')[0] == 0, 'it is mended')
         self.machines.wait_for_all()
         self.check('the list ends before it', self.answered(2, call(8))[:2], (4, 200))
+
+    def start_from_oldest_copy(self):
+        """Starts all companions from the oldest copy that machine 1 has."""
+        for it in self.machines.machines:
+            self.machines.kill('companion', it)
+        folders = [it.folder / 'room' for it in self.machines.machines.values()]
+        *newer, oldest = copies.copies_in(folders[0])
+        for it in newer:
+            it.file.unlink()
+        for it in folders[1:]:
+            shutil.rmtree(it)
+            it.mkdir()
+            shutil.copy(oldest.file, it / oldest.file.name)
+        for it in self.machines.machines:
+            self.machines.start('companion', it)
 
     def test_went_back(self):
         """Where etcd is restored from yesterday, a room that has played more stops, says so, and is

@@ -17,54 +17,13 @@ import unittest
 
 from machines import PATIENCE, THREE
 from many_terminals import FLEET, PLAN
+from namespaces import ADDRESSES, NUMBERS, Namespaces, done
 from room import PROGRAM, TestCase, dump, run
 
 import copies
 
-NUMBERS = 1, 2, 3
-ADDRESSES = [f'10.99.56.{it}' for it in NUMBERS]
 README = (THREE / 'README.md').read_text()
 CALL = json.dumps({'class': 2, 'needs': [1, 0, 0], 'note': '', 'place': 'TQ300800', 'serial': 1})
-
-
-def done(*command, **named):
-    return subprocess.run([str(it) for it in command], capture_output=True, text=True,
-                          timeout=PATIENCE, **named)
-
-
-class Namespaces:
-    """Three network namespaces that see each other over a bridge, which is in a fourth."""
-
-    def __init__(self):
-        self.names = {it: f'three{os.getpid()}m{it}' for it in NUMBERS}
-        self.hub = f'three{os.getpid()}hub'
-
-    def ip(self, *words):
-        output = done('ip', *words)
-        assert output.returncode == 0, f'no network namespace here (ip {words}): {output.stderr}'
-
-    def make(self):
-        self.ip('netns', 'add', self.hub)
-        self.ip('-n', self.hub, 'link', 'add', 'hub', 'type', 'bridge')
-        self.ip('-n', self.hub, 'link', 'set', 'hub', 'up')
-        for number, name in self.names.items():
-            self.ip('netns', 'add', name)
-            self.ip('-n', name, 'link', 'set', 'lo', 'up')
-            self.ip('-n', self.hub, 'link', 'add', f'm{number}', 'type', 'veth', 'peer', 'name',
-                    'eth', 'netns', name)
-            self.ip('-n', self.hub, 'link', 'set', f'm{number}', 'master', 'hub', 'up')
-            self.ip('-n', name, 'addr', 'add', f'{ADDRESSES[number - 1]}/24', 'dev', 'eth')
-            self.ip('-n', name, 'link', 'set', 'eth', 'up')
-
-    def close(self):
-        for it in *self.names.values(), self.hub:
-            done('ip', 'netns', 'del', it)
-
-    def inside(self, number, *command):
-        return ['ip', 'netns', 'exec', self.names[number], *map(str, command)]
-
-    def cut(self, number, is_cut):
-        self.ip('-n', self.hub, 'link', 'set', f'm{number}', 'down' if is_cut else 'up')
 
 
 class Units(unittest.TestCase):

@@ -2,20 +2,14 @@
 backup, and a list that is given up for the newest room."""
 # needs: etcd-server sqlite3
 # builds: dispatch_room
-import json
 import shutil
 import time
 
-from listed import ThreeTestCase
+from listed import ThreeTestCase, call
 from room import PATIENCE, dump, message
 
 QUESTION = message('deskof01', 'GET /queue')
 EXISTING = ['--initial-cluster-state=existing']
-
-
-def call(serial):
-    body = {'class': 2, 'needs': [1, 0, 0], 'note': '', 'place': 'TQ300800', 'serial': serial}
-    return message('takerat01', 'POST /call', json.dumps(body))
 
 
 class Repair(ThreeTestCase):

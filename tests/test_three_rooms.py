@@ -1,25 +1,17 @@
 """Rooms of three machines that differ, by a bit or by a version of the program: the odd one takes
-no more, and the others go on. And what is played on all of them that is no message: vehicles that
-are enrolled, and tokens that are changed."""
+no more, and the others go on."""
 # needs: etcd-server sqlite3
 # builds: dispatch_room
-import json
 import pathlib
 import signal
 import sys
 
-from listed import ThreeTestCase
+from listed import ThreeTestCase, call
 from machines import PATIENCE
 from many_terminals import exchange
-from room import PROGRAM, dump, fleet_of, message
+from room import PROGRAM, dump
 
 OTHER = pathlib.Path(__file__).resolve().parent / 'other_version.py'
-QUESTION = message('deskof01', 'GET /queue')
-
-
-def call(serial, token='takerat01'):
-    body = {'class': 2, 'needs': [1, 0, 0], 'note': '', 'place': 'TQ300800', 'serial': serial}
-    return message(token, 'POST /call', json.dumps(body))
 
 
 class Rooms(ThreeTestCase):
@@ -151,45 +143,3 @@ class Rooms(ThreeTestCase):
             self.machines.start('companion', it)
             self.machines.wait_for(it)
             self.check('it answers', self.calls(1, it), [200])
-
-    def test_enrol(self):
-        """Vehicles are enrolled while the room is served, and are there on each machine."""
-        self.machines.start_all()
-        fleet = self.folder / 'more.csv'
-        fleet.write_text(fleet_of('NEW1,1,1,TQ300804,crewofnew1', 'new2,1,1,TQ300804,crewofnew2'))
-        crew = message('crewofnew1', 'GET /order')
-        self.check('no such crew', self.answered(1, crew)[1], 403)
-        self.check('calls', self.calls(3), [200] * 3)
-        other = self.folder / 'other.csv'
-        other.write_text('hello\n')
-        before = self.machines.list().ends()
-        self.check('no fleet', self.machines.companion_does(2, 'enrol', other)[0], 1)
-        self.check('is not put', self.machines.list().ends(), before)
-        self.check('enrolled', self.machines.companion_does(2, 'enrol', fleet),
-                   (0, 'NEW1 added\nrow 2 bad\n'))
-        for it in self.machines.machines:
-            self.machines.wait_for(it)
-            self.check('a crew', self.answered(it, crew)[1], 200)
-        self.check('calls', self.calls(26), [200] * 26)
-        self.copied(30)
-        self.check('the three are equal', len({dump(self.newest(it).file)
-                                               for it in self.machines.machines}), 1)
-
-    def test_token(self):
-        """A terminal's token is changed on each machine."""
-        self.machines.start_all()
-        does = self.machines.companion_does
-        self.check('no such token', does(1, 'token', 'nobodyhas1', 'takernew01'),
-                   (1, 'companion: refused: no such terminal\n'))
-        self.check('one that is given', does(1, 'token', 'takerat01', 'takerat02'),
-                   (1, 'companion: refused: the token is given\n'))
-        self.check('no token', does(1, 'token', 'takerat01', 'a b')[0], 1)
-        self.check('changed', does(1, 'token', 'takerat01', 'takernew01'), (0, 'changed\n'))
-        for serial, it in enumerate(self.machines.machines, 1):
-            self.machines.wait_for(it)
-            self.check('the old one', self.answered(it, call(serial))[1], 403)
-            self.check('the new one', self.answered(it, call(serial, 'takernew01'))[1], 200)
-        self.machines.kill('companion', 2)
-        self.machines.start('companion', 2)
-        self.machines.wait_for(2)
-        self.check('after a kill', self.answered(2, call(9, 'takernew01'))[1], 200)

@@ -2,19 +2,29 @@
 once there is space they have copies again."""
 # needs: etcd-server sqlite3 mount
 # builds: dispatch_room
-import json
 import shutil
-import subprocess
+import unittest.mock
 
-from listed import ThreeTestCase
-from room import dump, message
+from disturbed import small
+from listed import ThreeTestCase, call
+from room import PROGRAM, TestCase, dump
+
+import copies
+import playing
 
 SIZE = 4 << 20  # bytes of a small file system
 
 
-def call(serial):
-    body = {'class': 2, 'needs': [1, 0, 0], 'note': '', 'place': 'TQ300800', 'serial': serial}
-    return message('takerat01', 'POST /call', json.dumps(body))
+class Work(TestCase):
+    def test_where(self):
+        """A room is played in the folder for that where it fits, and else beside the copies."""
+        copy = copies.Copy(self.folder / 'copy.db', 0, '', '', '')
+        copy.file.write_bytes(bytes(1000))
+        how = playing.Playing('', self.folder / 'room', self.folder, 1, 0)
+        for free, wanted in (3000, how.work), (2999, how.folder):
+            with unittest.mock.patch.object(shutil, 'disk_usage') as usage:
+                usage.return_value.free = free
+                self.check(f'{free} bytes', how.where(copy), wanted)
 
 
 class Space(ThreeTestCase):
@@ -22,12 +32,7 @@ class Space(ThreeTestCase):
         super().setUp()
         self.machines.copy_every, self.serial = 10, 0
         for number, machine in self.machines.machines.items():
-            folder = machine.folder / 'room'
-            folder.mkdir(parents=True)
-            words = ['mount', '-t', 'tmpfs', '-o', f'size={SIZE}', 'three', folder]
-            mounted = subprocess.run(words, capture_output=True, text=True)
-            assert mounted.returncode == 0, f'no file system is mounted here: {mounted.stderr}'
-            self.addCleanup(subprocess.run, ['umount', '--lazy', folder])
+            self.addCleanup(*small(machine.folder / 'room', SIZE))
             self.machines.words[number] = ['--work', self.folder / f'work{number}']
 
     def calls(self, count):
@@ -68,6 +73,21 @@ class Space(ThreeTestCase):
         newest = [self.newest(it) for it in self.machines.machines]
         self.check('with all records', [it.number for it in newest], [last] * 3)
         self.check('and are one room', len({dump(it.file) for it in newest}), 1)
+
+    def test_change(self):
+        """A change that one machine has no space for is given up at once, and made later."""
+        self.machines.start_all()
+        self.check('calls', self.calls(12), [200] * 12)
+        words = ['terminals', '--new', 'crew:V6', '--program', PROGRAM, '--folder',
+                 self.folder_of(1)]
+        filler = self.folder_of(2) / 'filler'
+        filler.write_bytes(bytes(shutil.disk_usage(self.folder_of(2)).free))
+        self.check('it is not made', self.machines.companion_does(1, *words),
+                   (1, 'companion: refused: not every machine could make it\n'))
+        self.check('calls behind it', self.calls(12), [200] * 12)
+        filler.unlink()
+        self.check('it is made', self.machines.companion_does(1, *words)[0], 0)
+        self.check('all end well', self.machines.stop_companions(), [0, 0, 0])
 
     def test_one(self):
         self.check_full([2])

@@ -14,8 +14,8 @@ import urllib.request
 import walls
 from browser import OPENER, of_module, until
 from pages import contrast
-from room import PATIENCE, TestCase, ask, call, fleet_of, free_port, message, run, serving
-from walls import NOW, WALL, incident, played, vehicle, wall
+from room import PATIENCE, PATIENT, TestCase, ask, call, fleet_of, free_port, message, run, serving
+from walls import NOW, WALL, incident, played, report, vehicle, wall
 
 TOKENS = ['deskone1', 'desktwo2', 'takerone', 'crewofa1', 'crewofb1']
 # Three hours ahead of UTC, which no other clock here is.
@@ -71,6 +71,7 @@ return [...document.querySelectorAll('.queue')].map((it) => [it.querySelector('t
   ...[...it.querySelectorAll('tbody tr')].map((entry) => texts(entry.querySelectorAll('span')))]);
 """
 ENTRY = ['class', 'who', 'place', 'why', 'time']
+TIME = r'\d\d:\d\d:\d\d'
 WARNING = """
 const box = document.querySelector('#stale'), main = document.querySelector('main');
 const sizeOf = (it) => parseFloat(getComputedStyle(it).fontSize);
@@ -118,7 +119,7 @@ class Served(TestCase):
 
     def serving(self):
         """The room, served at the same port each time."""
-        return serving(self.room, 9999, port=self.port)
+        return serving(self.room, 9999, *PATIENT, '--history', port=self.port)
 
     def asks(self, *words):
         """The body of the answer to one message."""
@@ -196,7 +197,7 @@ class Served(TestCase):
         self.reported = time.time()
         self.asks('desktwo2', 'POST /points/7', '{"cover":2,"place":"TQ700500"}')
         self.asks('crewofb1', 'POST /report',
-                  '{"button":"home","number":4,"order":0,"place":"TQ600800"}')
+                  '{"button":"home","number":4,"order":0,"place":"TQ610800"}')
         for number, button, place in [(1, 'mobile', 'TQ350700'), (2, 'scene', 'TQ401602')]:
             self.asks('crewofa1', 'POST /report', f'{{"button":"{button}","number":{number},'
                                                   f'"order":1,"place":"{place}"}}')
@@ -213,10 +214,11 @@ class Served(TestCase):
 
         def queues():
             seen[:] = BROWSER.run(QUEUES)
-            return [[head, *(it[:4] for it in entries)] for head, *entries in seen]
+            return [[head, *([*it[:3], re.sub(TIME, 'TIME', it[3])] for it in entries)]
+                    for head, *entries in seen]
         self.check_comes('queues, one where nothing waits', queues, [
             ['Division 1nothing waits'],
-            ['Division 22', ['\u2013', 'B1', 'TQ 600 800', 'report 4 came out of turn'],
+            ['Division 22', ['\u2013', 'B1', 'TQ 610 800', 'Home: wrong, no order, TIME, report 4'],
              ['\u2013', 'Point 7', 'TQ 700 500', 'short of cover']]])
         _, (_, report, point) = seen
         self.check('what has no moment has no wait', point[4], '')
@@ -249,6 +251,10 @@ class Served(TestCase):
 
 
 HOSTILE = ['<img src=x onerror=alert(1)>', '</title><script>alert(1)</script>', '"><b>', '&lt;']
+
+
+def exception(number):
+    return {'number': number, 'rank': 4, 'since': NOW - 600, 'vehicle': 'V3'}
 
 
 def small_room(token, what):
@@ -352,6 +358,39 @@ class Played(TestCase):
                    [True, True])
         BROWSER.size(1280, 720)
 
+    def test_exceptions(self):
+        """What an exception was, by the vehicle's reports: its button, what came of it, its order,
+        time, number and place. They are asked for once, and again for another exception."""
+        lists = {'vehicles': [vehicle('V3', 3)], 'incidents': [], 'points': [],
+                 'queue': [exception(9), exception(11)]}
+        known = [report(9), report(10, 'position', 'normal'),
+                 report(11, HOSTILE[0], 'stale', 0, (532000, 182000))]
+
+        def answer_of(token, what):
+            return [] if token != 'deskone1' else {**lists, 'vehicles/V3/reports': known}[what]
+
+        room, address = self.show(answer_of)
+        BROWSER.open(address)
+        at = f'{11 + AHEAD // 3600}:50:00'
+        wanted = [['TQ 310 810', f'Leave: skipped, order 1, {at}, report 9'],
+                  ['TQ 320 820', f'{HOSTILE[0]}: stale, no order, {at}, report 11']]
+        self.check_comes('each exception', self.exceptions, wanted)
+        refresh(2)
+        self.check('asked for once', self.asked(room), ['/vehicles/V3/reports'])
+        known.append(report(12, 'scene', 'late', 7))
+        lists['queue'] = [exception(11), exception(12)]
+        self.check_comes('another', self.exceptions, [
+            wanted[1], ['TQ 310 810', f'Scene: late, order 7, {at}, report 12']])
+        self.check('asked for again', self.asked(room), 2 * ['/vehicles/V3/reports'])
+
+    def exceptions(self):
+        """Places and words of the entries of the first queue, once there is one."""
+        return [it[2:4] for _, *entries in BROWSER.run(QUEUES)[:1] for it in entries]
+
+    def asked(self, room):
+        """The paths of reports that the room was asked for."""
+        return [path for path in (it.split(' ')[1] for it in room.heads) if 'reports' in path]
+
     def test_answers(self):
         """What the wall's server gives to whoever asks, and what it costs the room."""
         room, address = self.show(small_room)
@@ -369,9 +408,11 @@ class Played(TestCase):
                    [])
         self.check('another host', fetch(address, {'Host': 'room.example'})[0], 403)
         self.check('POST', fetch(address + 'picture', {}, b'{}')[0], 501)
-        self.check_comes('one picture of two desks', lambda: len(room.heads), 8)
+        # Each desk's four lists; and once the reports of each vehicle with an exception.
+        first = 8 + 1 + len(HOSTILE)
+        self.check_comes('one picture of two desks', lambda: len(room.heads), first)
         time.sleep(2.3)
-        self.check('without a page nothing', len(room.heads), 8)
+        self.check('without a page nothing', len(room.heads), first)
         began = time.monotonic()
         pages = [threading.Thread(target=fetch, args=[address + 'picture']) for _ in range(20)]
         for page in pages:
@@ -381,7 +422,7 @@ class Played(TestCase):
         # They come within two seconds, but on a busy machine later.
         most = 1 + int((time.monotonic() - began) / 2)
         self.check_comes('twenty pages cost one picture, or one each two seconds',
-                         lambda: len(room.heads) in range(16, 16 + 8 * most, 8), True)
+                         lambda: len(room.heads) in range(first + 8, first + 8 + 8 * most, 8), True)
         self.check('never two at once', room.overlaps, 0)
 
     def refused(self, *words):

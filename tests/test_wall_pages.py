@@ -8,7 +8,7 @@ import time
 
 from browser import of_module, until
 from room import TestCase
-from walls import NOW, incident, pictures, plan_of, played, refresh, vehicle, wall
+from walls import NOW, incident, pictures, plan_of, played, refresh, report, vehicle, wall
 
 EVERY = 'EVERY_PLACE' in os.environ
 SIZES = SMALL, LARGE = [(1366, 768), (1920, 1080)]
@@ -62,7 +62,9 @@ def wide_room(divisions, vehicles=200, incidents=40):
             'incidents': [incident(it, at(), [it % 2, 0, 0], it % 3 + 1)
                           for it in (LONGEST, *range(2, incidents // divisions + 1))],
             'points': [{'cover': 1, 'held': 0, 'number': it, 'place': at()} for it in (1, 2)],
-            'queue': queue_of(number)}
+            'queue': queue_of(number),
+            f'vehicles/{letter}102/reports': [
+                report(28500000 + number, 'hospital', order=LONGEST)]}
 
     desks = {f'desknumber{it}': desk(it) for it in range(1, divisions + 1)}
     return lambda token, what: desks[token][what]

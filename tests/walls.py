@@ -51,9 +51,9 @@ def refresh(browser, times):
 
 
 class PlayedRoom(threading.Thread):
-    """Answers like a room, each connection after a while in which another one could come. Keeps the
-    heads that it was sent, and counts connections that came while another was open, or that were
-    not closed."""
+    """Answers like a room, each connection after a while in which another one could come: what the
+    function has no answer to, by a KeyError, is no path. Keeps the heads that it was sent, and
+    counts connections that came while another was open, or that were not closed."""
 
     def __init__(self, answer_of, waits=0.01):
         super().__init__(daemon=True)
@@ -80,14 +80,21 @@ class PlayedRoom(threading.Thread):
         self.heads.append(head.decode())
         line, *fields = head.decode().split('\r\n')
         token = next(it for it in fields if it.startswith('X-Terminal: ')).split(' ')[1]
-        what = line.split(' ')[1].removeprefix('/')
-        body = json.dumps({what: self.answer_of(token, what)}).encode()
+        status, body = self.answer(token, line.split(' ')[1].removeprefix('/'))
         self.overlaps += self.is_called(self.waits) and not has_ended(connection)
-        connection.sendall(b'HTTP/1.1 200 OK\r\nDate: Wed, 25 Nov 2026 12:00:00 GMT\r\n'
+        connection.sendall(b'HTTP/1.1 %s\r\nDate: Wed, 25 Nov 2026 12:00:00 GMT\r\n'
                            b'Content-Type: application/json\r\nConnection: close\r\n'
-                           b'Content-Length: %d\r\n\r\n' % len(body) + body)
+                           b'Content-Length: %d\r\n\r\n' % (status, len(body)) + body)
         ready, _, _ = select.select([connection, self.listener], [], [], PATIENCE)
         self.overlaps += connection not in ready or connection.recv(1) != b''
+
+    def answer(self, token, what):
+        """The status and the body of an answer: 36 where the room has no such path."""
+        try:
+            content = {what.split('/')[-1]: self.answer_of(token, what)}
+        except KeyError:
+            return b'404 Not Found', b'{"error":"NoPath","number":36}'
+        return b'200 OK', json.dumps(content).encode()
 
     def is_called(self, seconds):
         return bool(select.select([self.listener], [], [], seconds)[0])
@@ -114,6 +121,12 @@ NOW = 1795608000  # the moment of the played room's answers
 def vehicle(name, status=1, kind=1, place=(530000, 180000), incident=None):
     return {'home': 1, 'incident': incident, 'kind': kind, 'place': place, 'post': None,
             'shift_end': NOW, 'status': status, 'vehicle': name}
+
+
+def report(number, button='leave', outcome='skipped', order=1, place=(531000, 181000), **more):
+    """A report of a vehicle, as a room with --history gives it."""
+    return {'button': button, 'cleared': False, 'moment': NOW - 600, 'number': number,
+            'order': order, 'outcome': outcome, 'place': place, 'status': 4} | more
 
 
 def incident(number, place=(530000, 180000), lack=(1, 0, 0), level=2):

@@ -1,4 +1,5 @@
-"""The toolchain's command `rt` as a library, for what it has no words for: proofs side by side, kept and measured."""
+"""The toolchain's command `rt` as a library, for what it has no words for: proofs side by side,
+kept and measured."""
 import argparse
 import functools
 import importlib.machinery
@@ -11,9 +12,16 @@ import subprocess
 import sys
 import tempfile
 import threading
-import time
+
+from forecast import Forecast
+from refusals import Refusal, refusal
 
 TOP = pathlib.Path(__file__).resolve().parent.parent
+
+
+def program_of(name):
+    """The program of a crate, where it is built."""
+    return TOP / 'crates' / name / 'out' / name
 
 
 def crate_name(text):
@@ -28,8 +36,8 @@ def say(text):
 
 
 def stamp_once(crate_type):
-    """A crate's stamp is made of those of all crates that it names, and each of them is made anew on every way down: here
-    each is made once in a call."""
+    """A crate's stamp is made of those of all crates that it names, and each of them is made anew
+    on every way down: here each is made once in a call."""
     plain, held = crate_type.stamp, threading.local()
 
     def stamp(crate):
@@ -47,18 +55,35 @@ def stamp_once(crate_type):
     crate_type.stamp = stamp
 
 
+# What was said of the crate that a thread checked last: the toolchain's judge shows a line of it.
+HEARD = threading.local()
+
+
+def hear(module):
+    """Has what is said of a checked crate kept."""
+    plain = module.checked
+
+    def checked(*given):
+        ran = plain(*given)
+        HEARD.lines = ran.stdout.splitlines()
+        return ran
+
+    module.checked = checked
+
+
 @functools.lru_cache(maxsize=None)
 def rt():
     """The module of the command."""
     command = shutil.which('rt')
     if not command:
-        say("the Rattle toolchain's command rt is not on the PATH; install the kit that README.md names")
+        say("the Rattle toolchain's command rt is not on the PATH; install the kit of README.md")
         sys.exit(1)
     loader = importlib.machinery.SourceFileLoader('rt', os.path.realpath(command))
     module = importlib.util.module_from_spec(importlib.util.spec_from_loader('rt', loader))
     loader.exec_module(module)
     # What it starts ends when this program does, and of a library only the statements are kept.
     module.rtlib.guarded()
+    hear(module)
     stamp_once(module.Crate)
     module.rtlib.Crate = module.Crate
     module.Crate.cuts_libraries = True
@@ -109,12 +134,13 @@ def is_proved(crate, work):
 
 
 def judged(crate, edit, kept=None):
-    """Whether the prover refuses an edit of a crate for what it means, by the toolchain's own judge, and what is said of
-    it. What was proved of the crate as it stands may be kept in a folder."""
+    """Whether the prover refuses an edit of a crate at a goal, by the toolchain's own judge, and
+    what is said of it. What was proved of the crate as it stands may be kept in a folder."""
     outcome, report = rt().must_fail(crate, str(edit), ['--jobs', '1'], kept)
     # some kits name the outcome, others say whether the edit was refused
     is_refused = outcome in [getattr(rt(), it, True) for it in ('REFUSED', 'AT_LIMIT')]
-    return is_refused and 'only because a proof file names' not in report, report
+    why = refusal(HEARD.lines) if is_refused else None
+    return why is Refusal.GOAL, report if why in (None, Refusal.GOAL) else f'{report} ({why.value})'
 
 
 def build(library, jobs):
@@ -128,29 +154,39 @@ def build(library, jobs):
 
 
 def in_lanes(wanted, work):
-    """Calls work(crate, jobs) for each crate after those of them that it stands on, as many at a time as processors and
-    memory hold. What stands on a crate that failed is left out. Gives whether none failed."""
-    named = {it.name for it in wanted}
+    """Calls work(crate, jobs) for each crate after those of them that it stands on, as many at a
+    time as processors and memory hold. What stands on a crate that failed is left out. Gives
+    whether none failed."""
+    key = lambda crate: (crate.name, 'proof')  # so a proof gets the processors that no other needs
+    named = set(map(key, wanted))
 
     def task(crate):
-        waits = [it.name for it in crate.below() if it.name in named]
+        waits = [key(it) for it in crate.below() if key(it) in named]
         call = lambda given, jobs: all(given[it] for it in waits) and work(crate, jobs)
         return waits, crate.count(rb'\n'), rt().need(crate), call
 
-    return all(rt().in_lanes({it.name: task(it) for it in wanted}).values())
+    return all(rt().in_lanes({key(it): task(it) for it in wanted}).values())
 
 
-def build_all(libraries):
-    """Proves, side by side, the libraries that are not kept, and shows how far it is. Gives whether all are proved."""
-    left = [it for it in libraries if not it.is_built()]
-    began, done = time.monotonic(), len(libraries) - len(left)
+def build_all(libraries, proved=lambda: None, program=None, build_program=None):
+    """Proves, side by side, the libraries that are not kept, and a program above them. Says of each
+    as it begins how much is left, and calls what shall come after each. Gives whether all are
+    proved."""
+    left = [it for it in [*libraries, program] if it and not it.is_built()]
+    named, begun = {it.name for it in left}, []
+    waits = {it.name: named & {below.name for below in it.below()} for it in left}
+    forecast = Forecast(waits, rt().processors())
+    if left:
+        say(f'{len(left)} crates are to be proved, {forecast.said()} on {rt().processors()} '
+            'processors of a usual speed; what is proved is kept')
 
-    def work(library, jobs):
-        nonlocal done
-        if not build(library, jobs):
+    def work(crate, jobs):
+        begun.append(crate)
+        say(f'{crate.name}, {len(begun)} of {len(left)}, {forecast.said()}')
+        if not (build_program if crate is program else build)(crate, jobs):
             return False
-        done += 1
-        say(f'proved {library.name}, {done} of {len(libraries)} libraries, {(time.monotonic() - began) / 60:.0f} min')
+        forecast.end(crate.name)
+        proved()
         return True
 
     return in_lanes(left, work)

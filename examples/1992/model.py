@@ -1,6 +1,7 @@
 """A model of the room: its rules (docs/RULES.md) as far as a day here needs them. Each of the
 promises that promises.py names can be taken away; without all of them it is a caricature of the
 system of 1992."""
+import collections
 import dataclasses
 import heapq
 import math
@@ -37,12 +38,7 @@ class Turn:
 
 
 @dataclasses.dataclass(eq=False)
-class Case:
-    """An incident."""
-    key: tuple[int, int]
-    place: Place
-    grade: int
-    opened: int
+class Case(Incident):
     needs: int
     turns: list[Turn] = dataclasses.field(default_factory=list)
 
@@ -93,7 +89,7 @@ class Model(Room):
         new_list, stays = Log if self.is_log else Queue, 'stay' in kept
         self.state = State(world.crews, world.city.divisions,
                            lambda: new_list(world.settings, stays))
-        self.saved, self.numbers, self.orders = None, 0, {}
+        self.saved, self.numbers, self.orders = None, collections.Counter(), {}
 
     def vehicle(self, crew: Crew) -> Vehicle:
         return self.state.fleets[crew.division][crew.callsign]
@@ -129,8 +125,8 @@ class Model(Room):
         if found and self.knows_again(call):
             found.grade, found.needs = min(found.grade, call.grade), max(found.needs, call.needs)
         else:
-            self.numbers += 1
-            key = division, self.numbers
+            self.numbers[division] += 1
+            key = division, self.numbers[division]
             found = Case(key, call.place, call.grade, self.world.now, call.needs)
             self.state.active[division][key] = found
         self.settle(found)
@@ -210,7 +206,7 @@ class Model(Room):
 
     def on_duty(self, crew: Crew, place: Place) -> None:
         it = self.vehicle(crew)
-        if it.status == 0:
+        if it.status == 0 and crew.until > self.world.now:
             it.place, it.until = place, crew.until
             self.put(it, 1)
             heapq.heappush(self.state.ends[it.division], (it.until, it.name))

@@ -2,7 +2,7 @@
 """Nine days later, on 4 November 1992, the system stopped: a piece of memory had been kept for each
 vehicle that was sent, for three weeks, and the machine that stood by had never been tried. Here as
 many vehicles are sent in the proved room while its memory is watched; then three machines are one
-room (examples/three), and the first of them is killed while vehicles are sent.
+room (examples/three), and the one that leads is killed while vehicles are sent.
 
   november.py           keeps what it saw in november.json, of which the page is made
   november.py --many 2000 --orders 40 --file FILE"""
@@ -183,15 +183,27 @@ def lost(terminal: Terminal, orders: dict[str, tuple[int, int]]) -> int:
     return found
 
 
+def leading(addresses: list[str]) -> int:
+    """Which machine has the member of etcd that leads, once all have begun."""
+    while True:
+        found = [Terminal(it).ask('', 'GET /health')[1]['etcd']['leads'] for it in addresses]
+        if True in found:
+            return found.index(True)
+        time.sleep(0.1)
+
+
 def killed(program: str, many: int, ports: int) -> dict[str, int | float]:
-    """What became of the orders where the first of three machines is killed."""
+    """What became of the orders where that of three machines is killed whose member of etcd leads,
+    as the others then have to choose."""
     world = world_of(many)
     with (tempfile.TemporaryDirectory() as folder,
           machines(program, pathlib.Path(folder), ports, world) as (addresses, kill)):
-        terminal = Terminal(*addresses)
-        orders = send_all(terminal, world.crews, lambda: kill(1))
+        first = leading(addresses)
+        others = [it for it in addresses if it != addresses[first]]
+        terminal = Terminal(addresses[first], *others)
+        orders = send_all(terminal, world.crews, lambda: kill(first + 1))
         return {'orders': len(orders), 'silence': round(terminal.silence(), 2),
-                'lost': max(lost(Terminal(it), orders) for it in addresses[1:])}
+                'lost': max(lost(Terminal(it), orders) for it in others)}
 
 
 def main() -> None:

@@ -15,7 +15,7 @@ from summary import SHOWN
 
 HERE = pathlib.Path(__file__).resolve().parent
 TOP = HERE.parent.parent
-NOVEMBER = HERE / 'november.json'
+NOVEMBER, VERDICTS = HERE / 'november.json', HERE / 'verdicts.json'
 LINK = re.compile(r'\[([^]]+)\]\(([^)]+)\)')
 
 STYLE = """
@@ -73,15 +73,27 @@ def clauses(it: promises.Promise, folder: pathlib.Path) -> str:
     return '<br>'.join(clause(*named, folder) for named in it.clauses)
 
 
-def clause(name: str, edit: str, folder: pathlib.Path) -> str:
+def links_of(name: str, edit: str) -> dict[str, str]:
+    """The links of the row of the list of promises that names both."""
     for line in (TOP / 'docs' / 'PROMISES.md').read_text().split('\n'):
         links = dict(LINK.findall(line))
         if name in links and edit in links:
-            file, _, _ = links[edit].partition('#')
-            return (f'{linked(name, links[name], folder)}<details><summary>{html.escape(edit)}'
-                    f'</summary><pre>{html.escape((TOP / "docs" / file).read_text())}</pre>'
-                    f'{linked("the edit", links[edit], folder)}</details>')
+            return links
     raise NoClause(f'docs/PROMISES.md has no row of {name} and "{edit}"')
+
+
+def edit_of(links: dict[str, str], edit: str) -> pathlib.Path:
+    return (TOP / 'docs' / links[edit].partition('#')[0]).resolve()
+
+
+def clause(name: str, edit: str, folder: pathlib.Path) -> str:
+    """A clause, and an edit with what the prover says of it, by verdicts.py."""
+    links = links_of(name, edit)
+    said = json.loads(VERDICTS.read_text())[edit]
+    return (f'{linked(name, links[name], folder)}<details><summary>{html.escape(edit)}</summary>'
+            f'<pre>{html.escape(edit_of(links, edit).read_text())}</pre>'
+            f'The prover refuses it: <code>{html.escape(said)}</code><br>'
+            f'{linked("the edit", links[edit], folder)}</details>')
 
 
 def linked(says: str, to: str, folder: pathlib.Path) -> str:
@@ -163,7 +175,7 @@ def of_november() -> str:
             'that was sent, and the machine that stood by had never been tried. In the room '
             f'{seen["memory"][-1][0]:,} vehicles were sent, three weeks of 2,000 a day; from '
             f'{seen["memory"][1][0]:,} on its memory kept within {max(sizes) - min(sizes):,} KiB. '
-            f'Then three machines were one room, and the first was killed after half of '
+            f'Then three machines were one room, and the one that leads was killed after half of '
             f'{seen["orders"]} orders: {seen["lost"]} of them were lost, and the longest silence '
             f'was {seen["silence"]:g} seconds.</p>{drawing.of_memory(seen["memory"])}')
 
@@ -194,11 +206,13 @@ def sections(folder: pathlib.Path, found: table.Table, played: dict, values: dic
     yield '<h2>One promise at a time</h2>', (
         f'<p>{found.seeds} days at {drawing.times(found.rate)}: the median of each figure, and its '
         'interval without the lowest and the highest. Bold: on nine days of ten it differs from '
-        'its side in the same way. Grey: it does not, so there the promise does not matter.</p>')
+        'its side in the same way. Grey: it does not, so there the promise does not matter. The '
+        'room is here the model with all promises, which answers as the program where both are '
+        'asked the same (<code>agreement.py</code>).</p>')
     yield drawing.of_promises(found), of_promises(found, folder)
     yield of_differing(found), (
-        '<p>A clause is a line that the prover has proved of the room; an edit turns it, and the '
-        'prover refuses it: <code>tools/edits CRATE</code> shows how.</p>')
+        '<p>A clause is a line that the prover has proved of the room. An edit turns it, and the '
+        'prover refuses it: <code>verdicts.py</code> tries each.</p>')
     yield '<h2>From where on it fails</h2>', of_failing(found)
     for figure in ('never_reached', 'sent_in_time'):
         yield '', (drawing.along(found, 'errors', figure, 'errors, times those assumed')

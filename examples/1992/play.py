@@ -69,8 +69,7 @@ def played(settings, rate: float, room) -> World:
     """The day of the map, on a side."""
     world = World(parameters.at_rate(settings, rate), 1, room)
     world.rate, world.story = rate, Story(world)
-    world.play()
-    return world
+    return world.play()
 
 
 def played_in_room(settings, rate: float, program: str, keep: pathlib.Path) -> World:

@@ -8,7 +8,7 @@ from people import Call, Crew, Order, Place, Report
 ON_JOB, FREE = (2, 3, 4, 5), (1, 6)  # the statuses of docs/RULES.md
 
 
-@dataclasses.dataclass(frozen=True)
+@dataclasses.dataclass(eq=False)
 class Incident:
     """An incident that lacks a vehicle. Its key is its division and its number there."""
     key: tuple[int, int]

@@ -26,9 +26,7 @@ class Day:
 
     def figures(self) -> dict:
         settings = parameters.at_rate(parameters.drawn(self.given, self.seed), self.rate)
-        world = World(settings, 1, lambda it: Model(it, self.kept))
-        world.play()
-        found = summary.figures(world)
+        found = summary.figures(World(settings, 1, lambda it: Model(it, self.kept)).play())
         return {name: found[name] for name in summary.SHOWN}
 
     def row(self) -> dict:

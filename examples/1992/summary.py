@@ -1,5 +1,5 @@
 """What came of a day, as plain numbers. All is counted of the world, which is the same kind of
-thing whatever the room; nothing of what a room says of itself."""
+thing whatever the room; but an order upon an order, of what that room answered before."""
 from world import IN_TIME, SAMPLE, WITHIN, World
 
 # Those that the page and the table show, as they name them.

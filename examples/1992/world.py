@@ -48,7 +48,7 @@ class World:
         self.samples = []
         self.desks = Desks(self, room(self))
 
-    def play(self) -> None:
+    def play(self) -> 'World':
         for crew in self.crews.values():
             for day in range(-1, self.days):
                 self.start(self.shift(crew, day * DAY + crew.begins))
@@ -67,6 +67,7 @@ class World:
             pause = next(life, None)
             if pause is not None:
                 self.start(life, pause)
+        return self
 
     def start(self, life, after: int = 0) -> None:
         heapq.heappush(self.coming, (self.now + after, next(self.turns), life))

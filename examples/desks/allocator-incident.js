@@ -14,16 +14,20 @@ const CALLS = ['Position', 'Serial', 'At', 'Class', 'Needs', 'Place', 'Linked', 
 const TURNS = ['Vehicle', 'Order', 'Kind', 'Ordered', 'Acknowledged', 'Scene', 'Left', 'Hospital',
   'Ended', ''];
 
-/** A table with a heading; each cell is text. */
+/** A table with a heading; a cell is text, or texts and links. */
 export function table(caption, heads, rows) {
   const line = (cells, name) => element('tr', {}, ...cells.map((it) =>
-    element(name, name === 'th' ? { scope: 'col' } : {}, String(it))));
+    element(name, name === 'th' ? { scope: 'col' } : {}, ...[it].flat())));
   return element('table', {}, element('caption', {}, caption),
     element('thead', {}, line(heads, 'th')),
     element('tbody', {}, ...rows.map((it) => line(it, 'td'))));
 }
 
 const time = (moment) => (moment === null ? '–' : clock(moment));
+
+/** The way to another incident's page. */
+const linkTo = (number) =>
+  element('a', { href: `#incident-${number}`, class: 'target' }, `incident ${number}`);
 
 export class IncidentPage {
   hasJustMoved = false;
@@ -77,20 +81,21 @@ export class IncidentPage {
   }
 
   #showHistory(it, room) {
-    const state = STATES[it.state] + (it.into === null ? '' : ` into incident ${it.into}`);
-    this.head.textContent = `Class ${it.class}, ${reference(it.place)}, ${state}; `
+    this.head.textContent = `Class ${it.class}, ${reference(it.place)}, ${STATES[it.state]}; `
       + `opened ${clock(it.opened)}, ${since(it.opened, room.moment)} ago; first order `
       + `${time(it.first_order)}; needs ${vehicles(it.needs)}; served by `
       + `${vehicles(it.served) || 'nobody'}.`;
     const content = JSON.stringify(it);
     if (content === this.shown) return;
     this.shown = content;
-    fill(this.list, table('Calls', CALLS, it.calls.map((one) => [one.position, one.serial,
-      time(one.moment), one.class, vehicles(one.needs), reference(one.place),
-      one.linked ? `linked, ${far(distance(one.place, it.place))}` : 'first', one.note])),
+    fill(this.list, it.into === null ? null : element('p', {}, 'It was merged into ',
+      linkTo(it.into), ', and its calls with it.'),
+    table('Calls', CALLS, it.calls.map((one) => [one.position, one.serial, time(one.moment),
+      one.class, vehicles(one.needs), reference(one.place),
+      withOrigin(callWords(one, it), one.given, it), one.note])),
     table('Turns', TURNS, it.turns.map((one) => [one.vehicle, one.order, KINDS[one.kind - 1],
       time(one.ordered), time(one.acknowledged), time(one.scene), time(one.left),
-      time(one.hospital), time(one.ended), turnWords(one, it)])));
+      time(one.hospital), time(one.ended), withOrigin(turnWords(one, it), one.incident, it)])));
   }
 
   /** Of a room without such a path: its line, and the vehicles that are sent to it now. */
@@ -105,6 +110,18 @@ export class IncidentPage {
       room.sentTo(this.number).map((one) => [one.vehicle, KINDS[one.kind - 1],
         reference(one.place), vehicleWhy(room, one)])));
   }
+}
+
+/** Words of a call or a turn; where it came with an incident that was merged into this one, with
+    which. */
+const withOrigin = (words, number, incident) => (number === incident.number ? words
+  : [`${words ? `${words}, ` : ''}came with `, linkTo(number)]);
+
+/** Whether a call was the incident's first, or else how far off it was. */
+function callWords(call, incident) {
+  const away = far(distance(call.place, incident.place));
+  if (call.linked) return `linked, ${away}`;
+  return call.given === incident.number ? 'first' : away;
 }
 
 /** What its moments don't say: it was stood down, or ordered before a call made it urgent. */

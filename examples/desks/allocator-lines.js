@@ -12,7 +12,7 @@ const UNTIMED = 7; // the rank of points, which have no moment
 const INCIDENT_RANKS = [1, 2, 3];
 
 function queueLine(room, entry) {
-  const [what, why] = entryWords(entry);
+  const [what, why] = entryWords(entry, clock);
   const vehicle = room.vehicleOf.get(entry.vehicle);
   const number = INCIDENT_RANKS.includes(entry.rank) ? entry.number : vehicle?.incident;
   const incident = room.incidentOf.get(number);
@@ -20,13 +20,14 @@ function queueLine(room, entry) {
   return line(`${entry.rank} ${entry.number} ${entry.vehicle}`, { what, why,
     age: entry.rank === UNTIMED ? '' : since(entry.since, room.moment),
     sign: classWords(incident), level: entry.rank === 1 ? 'urgent' : '',
-    place: (incident ?? point ?? vehicle)?.place ?? null,
+    place: (entry.report ?? incident ?? point ?? vehicle)?.place ?? null,
     target: { incident: number ?? undefined, vehicle: entry.vehicle || undefined,
       report: entry.rank === 4 ? entry.number : undefined,
       point: point ? entry.number : undefined } });
 }
 
-export const queueLines = (room) => room.queue.map((it) => queueLine(room, it));
+export const queueLines = (room, { exceptions }) => room.queue.map((it) =>
+  queueLine(room, { ...it, report: exceptions.reportOf(it) }));
 
 // ---- incidents, with what they lack; those that lack nothing come last
 

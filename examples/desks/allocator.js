@@ -4,6 +4,7 @@ import { Acting } from './allocator-acting.js';
 import { ACTIONS } from './allocator-actions.js';
 import { Alarm } from './allocator-alarm.js';
 import { Drawer } from './allocator-drawer.js';
+import { Exceptions } from './allocator-exceptions.js';
 import { writeHandover } from './allocator-handover.js';
 import { IncidentPage } from './allocator-incident.js';
 import { drawKeys, isTyped, move, showKeys } from './allocator-keys.js';
@@ -37,7 +38,7 @@ const drawer = new Drawer();
 const acting = new Acting(reading, drawer);
 const incidentPage = new IncidentPage(leave);
 const alarm = new Alarm(byId('alarm'), () => press('v'));
-const marks = { stays: new Stays(), callsSeen: new Map(),
+const marks = { stays: new Stays(), exceptions: new Exceptions(), callsSeen: new Map(),
   get bound() { return 60 * Number(localStorage.getItem(BOUND_NAME) ?? BOUND); } };
 let current = panels.queue;
 let lines = Object.fromEntries(Object.keys(panels).map((it) => [it, []]));
@@ -108,6 +109,7 @@ async function afterRound() {
   draw();
   await incidentPage.read(reading);
   await marks.stays.askOne();
+  if (await marks.exceptions.ask(room)) draw();
 }
 
 /** How many calls of each incident somebody has seen: those of an incident that is open now, and

@@ -18,8 +18,8 @@ const ACTS = ['normal', 'skipped'];
 const isMobileFor = (order) => ({ content, answer }) => content.button === 'mobile'
   && content.order === order && ACTS.includes(answer?.content?.outcome);
 
-// Whether a report was sent, and then withheld: what was sent of it may still arrive, until the room
-// has answered a later one.
+// Whether a report was sent, and then withheld: what was sent of it may still arrive, until the
+// room has answered a later one.
 const isStray = ({ number, isTried, answer }, messages) => isTried && answer?.isWithheld
   && !messages.some((it) => it.number > number && it.answer?.ok);
 

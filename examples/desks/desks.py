@@ -19,6 +19,7 @@ sys.path.append(str(WALL))
 from page_server import KINDS, Page, PageServer, Refused, area_of, loopback
 
 ANSWER_WITHIN = 3.0  # seconds that the room may be silent for
+NEXT_AFTER = 2.0  # seconds that one machine of three may be silent for
 LONGEST_ANSWER = 16 << 20  # bytes
 LONGEST_BODY = 64 << 10  # bytes that are handed on; the room itself takes 1024
 LONGEST_READ = 16 << 20  # bytes that are read, so that the refusal of more arrives
@@ -29,7 +30,8 @@ LONGEST_READ = 16 << 20  # bytes that are read, so that the refusal of more arri
 def words():
     parser = argparse.ArgumentParser(prog='desks.py', description=__doc__,
                                      formatter_class=argparse.RawDescriptionHelpFormatter)
-    parser.add_argument('room', metavar='ADDRESS', type=loopback, help='where the room is served')
+    parser.add_argument('rooms', metavar='ADDRESS', type=loopback, nargs='+',
+                        help='where the room is served; of three machines that are one, each')
     parser.add_argument('--plan', metavar='FILE', type=pathlib.Path,
                         help="the room's plan, for the map of areas")
     parser.add_argument('--places', metavar='FILE', type=pathlib.Path,
@@ -93,20 +95,39 @@ def files():
 # ---- the room
 
 
-def ask(room, method, path, token, body):
-    """The status, the Date and the content of the room's answer to one request, over a connection
-    of its own. Where none comes: 504 where it is silent, 502 where it is not there."""
-    connection = http.client.HTTPConnection(*room, timeout=ANSWER_WITHIN)
+def ask(rooms, method, *request):
+    """What the room says to a request, by the first machine that answers of those that are it. One
+    that does not is asked last from then on. What may have been done is asked again only where
+    that changes nothing: questions, and calls and reports, which are known by their numbers."""
+    is_safe = method != 'POST' or request[0] in ('/call', '/report')
+    for room in list(rooms):
+        found = ask_one(room, NEXT_AFTER if len(rooms) > 1 else ANSWER_WITHIN, method, *request)
+        status, _, content = found
+        if status not in (502, 503, 504):
+            break
+        rooms[:] = [*(it for it in rooms if it != room), room]  # which all threads see at once
+        if not is_safe and status != 502 and b'"kept":"no"' not in content:
+            break
+    return found
+
+
+def ask_one(room, within, method, path, token, body):
+    """The status, the Date and the content of a machine's answer to one request, over a connection
+    of its own. Where none comes: 504 where it is silent or breaks off, 502 where it is not
+    there."""
+    connection = http.client.HTTPConnection(*room, timeout=within)
     fields = {'Connection': 'close'} | ({} if token is None else {'X-Terminal': token})
+    try:
+        connection.connect()
+    except OSError:
+        return 502, None, refusal('Unanswered', 0)
     try:
         connection.request(method, path, body, fields)
         with connection.getresponse() as answer:
             content = answer.read(LONGEST_ANSWER)
             return answer.status, answer.headers['Date'], content
-    except TimeoutError:
-        return 504, None, refusal('Unanswered', 0)
     except (OSError, http.client.HTTPException):
-        return 502, None, refusal('Unanswered', 0)
+        return 504, None, refusal('Unanswered', 0)
     except ValueError:  # what no request of HTTP can have, as letters of no ASCII in a path
         return 400, None, refusal('BadMessage', 30)
     finally:
@@ -160,16 +181,16 @@ class DesksPage(Page):
         if int(length) > LONGEST_BODY:
             return self.answer(413, 'application/json', refusal('BodyTooLong', 32))
         path, token = self.path.removeprefix('/room'), self.headers.get('X-Terminal')
-        status, date, content = ask(self.server.room, self.command, path, token, body)
+        status, date, content = ask(self.server.rooms, self.command, path, token, body)
         return self.answer(status, 'application/json', content, Date=date)
 
 
 class Desks(PageServer):
     """The pages' server."""
 
-    def __init__(self, address, room, known):
+    def __init__(self, address, rooms, known):
         super().__init__(address, DesksPage)
-        self.room = room
+        self.rooms = rooms
         self.known = {f'/data/{name}': content for name, content in known.items()}
 
 
@@ -180,7 +201,7 @@ def main():
                  'places.json': json.dumps(places_of(found.places)).encode()}
         if found.write:
             return write(found.write, known)
-        desks = Desks(found.listen, found.room, known)
+        desks = Desks(found.listen, found.rooms, known)
     except (Refused, OSError) as error:
         parser.error(str(error))
     return desks.serve('desks')

@@ -40,7 +40,7 @@ PATHS = """
     /incidents/N/needs /incidents/N/merge /incidents/N/close /vehicles /vehicles/C/duty
     /vehicles/C/off /vehicles/C/standdown /vehicles/C/standby /vehicles/C/lend
     /vehicles/C/withdraw /vehicles/C/decline /vehicles/C/accept /vehicles/C/recall
-    /vehicles/C/giveback
+    /vehicles/C/giveback /vehicles/C/reports
     """.split()
 OTHER = 'other'
 FORMS = {r'\bN\b': r'\\d{1,10}', r'\bC\b': '[A-Z0-9]{1,8}', r'\bDAY\b': r'\\d{4}-\\d\\d-\\d\\d'}

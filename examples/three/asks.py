@@ -19,8 +19,8 @@ class Ask:
 
 
 def no_answer(is_kept: str) -> bytes:
-    """Answers a terminal that there is no answer, and whether its request is kept in the list or will
-    be: no, yes or perhaps."""
+    """Answers a terminal that there is no answer, and whether its request is kept in the list or
+    will be: no, yes or perhaps."""
     return messages.json_answer(503, {'error': 'NoAnswer', 'kept': is_kept})
 
 

@@ -9,6 +9,7 @@ from etcd import Member, NoUser, Reach, Unreached, fault_of
 
 LENGTH = re.compile(rb'\r\ncontent-length: (\d+)', re.I)
 END = b'\r\n\r\n'
+CONNECTS_WITHIN = 1.0  # seconds, which the member needs no other one for
 MOST_LINE = 1 << 25  # bytes of one line of a watch, which is at most what etcd takes of one put
 
 TakeLine = collections.abc.Callable[[bytes], None]
@@ -42,7 +43,10 @@ class Wire(asyncio.Protocol):
         """Asks; gives what will have the status and the content."""
         self.answered = asyncio.get_running_loop().create_future()
         self.status, self.left, self.parts = 0, -1, []
-        self.transport.write(request)
+        if self.transport:
+            self.transport.write(request)
+        else:
+            self.fail('it closed the connection')
         return self.answered
 
     def data_received(self, read: bytes) -> None:
@@ -107,7 +111,7 @@ class Wire(asyncio.Protocol):
 
 
 class Channel:
-    """A connection to the member, for one request at a time."""
+    """A connection to the member, for one request at a time, each of which may take so long."""
 
     def __init__(self, reach: Reach, within: float):
         self.reach, self.within = reach, within
@@ -126,42 +130,43 @@ class Channel:
 
     async def exchange(self, path: str, body: bytes) -> bytes:
         is_answered = False
-        timer = asyncio.get_running_loop().call_later(self.within, self.give_up)
         try:
             status, content = await self.sent(path, body)
             is_answered = True
-        except OSError as error:
-            raise Unreached(f'etcd: {str(error) or type(error).__name__}') from None
         finally:
-            timer.cancel()
             if not is_answered:
                 self.close()  # what still comes is no answer of the next request
         if status != 200:
             raise fault_of(status, content)
         return content
 
-    def give_up(self) -> None:
-        if self.wire:
-            self.wire.fail('timed out')
+    async def connect(self) -> None:
+        try:
+            async with asyncio.timeout(CONNECTS_WITHIN):
+                _, self.wire = await asyncio.get_running_loop().create_connection(
+                    Wire, self.reach.host, self.reach.port, ssl=self.reach.context)
+        except OSError as error:
+            raise Unreached(f'etcd: {str(error) or type(error).__name__}') from None
 
     async def sent(self, path: str, body: bytes, take_line: TakeLine | None = None) -> tuple:
         if not (self.wire and self.wire.transport):
-            async with asyncio.timeout(self.within):
-                _, self.wire = await asyncio.get_running_loop().create_connection(
-                    Wire, self.reach.host, self.reach.port, ssl=self.reach.context)
+            await self.connect()
         self.wire.take_line = take_line
         token = f'Authorization: {self.reach.token}\r\n' if self.reach.token else ''
         # Where a request has no Accept, etcd takes its own certificate for the user's.
         head = (f'POST {path} HTTP/1.1\r\nHost: {self.reach.host}\r\nAccept: application/json\r\n'
                 f'{token}Content-Length: {len(body)}\r\n\r\n')
-        return await self.wire.send(head.encode() + body)
+        answered = self.wire.send(head.encode() + body)
+        timer = asyncio.get_running_loop().call_later(self.within, self.wire.fail, 'timed out')
+        try:
+            return await answered
+        finally:
+            timer.cancel()
 
     async def hear(self, path: str, asked: dict, take_line: TakeLine) -> None:
         """Hears an answer that has no end, line by line, until the member ends it."""
         try:
             status, content = await self.sent(path, json.dumps(asked).encode(), take_line)
-        except OSError as error:
-            raise Unreached(f'etcd: {str(error) or type(error).__name__}') from None
         finally:
             self.close()
         raise fault_of(status, content)

@@ -5,8 +5,10 @@ the room answers its record. It is not proved; the room that plays is.
 
   companion.py begin ROOM FOLDER                     makes a room's file the machine's first copy
   companion.py serve FOLDER ADDRESS --machine N      serves terminals
-  companion.py enrol FLEET                           enrols vehicles on all machines
-  companion.py token OLD NEW                         gives a terminal another token
+  companion.py import FLEET                          enrols vehicles
+  companion.py terminals --new WHO                   gives a terminal another token
+  companion.py replan PLAN                           gives the room another plan
+  companion.py renew --since DAY                     drops what was over before a day
   companion.py leave-out N                           lets the list go on without a machine
   companion.py replace N                             makes a machine's member of etcd a new one
   companion.py mend                                  has the list end where its entries do
@@ -17,31 +19,37 @@ import asyncio
 import functools
 import hashlib
 import os
+import pathlib
 import secrets
+import shutil
 import signal
 import sys
+import tempfile
 import time
 
+import changing
 import copies
 import digest
 import repair
 import words
 from copies import Copy
-from entries import MOST_FLEET, Entry, Place, Record, first_entry
+from clocks import passed
+from entries import MOST_CHANGE, Entry, Place, Record, first_entry
 from etcd import Unreached
 from health import Health, Starting
 from keeping import TRY_EVERY, Keeping
-from kept_list import HEAD, KeptList, Lost, delete, head_of, span
+from kept_list import OUTCOMES, KeptList, Lost, delete, span
 from machine import Machine, Settings
 from played_room import Changed, Ended
 from playing import Playing
 from said import say
 from terminals import Connections
-from upkeep import OUT, OUTCOMES, Upkeep
+from upkeep import CHANGES_WITHIN, OUT, Upkeep
 from words import WAITS, Refused, kept_list, patient_list
 
 STARTS_EVERY = 1.0  # seconds between two looks at the list, before it has a copy's record
-FLEET_HEAD = b'callsign,division,kind,place,token'
+FLEET_HEAD, PLAN_HEAD = 'callsign,division,kind,place,token', 'what,number,a,b,c,d'
+TRIES = 5  # of a change while somebody is answered otherwise
 LOST = 3  # the status where another start finds a copy that is whole and in the list
 
 
@@ -72,51 +80,75 @@ def begin(given: argparse.Namespace) -> None:
     print('begun')
 
 
-# ---- what changes the list from the command line
+# ---- changes
 
 
-def last_place(kept: KeptList) -> Place:
-    found = [head_of(value) for _, value, _ in kept.values(HEAD)]
-    entry = kept.entry(found[0].number) if found and found[0] else None
-    if not entry:
-        raise Refused('there is no list')
-    return entry.place
+def file_of(who: str, token: str) -> str:
+    """The file of a plan or a fleet by which one terminal gets a token. The program looks at
+    nothing else in it."""
+    kind, _, name = who.partition(':')
+    if kind == 'crew':
+        return f'{FLEET_HEAD}\n{name},1,1,TQ300800,{token}\n'
+    area = name if kind == 'desk' else 1
+    return (f'{PLAN_HEAD}\nzone,0,UTC0,,,\narea,{area},500000,100000,549999,199999\n'
+            f'{kind},{name},{token},,,\n')
 
 
-def put_record(given: argparse.Namespace, record: Record) -> None:
-    """Puts a record at the list's end, and reports what the machines made of it. Where etcd is
-    silent it is put again at the same place, so it is not there twice."""
-    kept, until = patient_list(given), time.monotonic() + WAITS
-    while True:
-        place = last_place(kept)
-        found = kept.keep(place, place.moment, [record])
-        if found.entries and record in found.entries[0].records:
+def text_of(given: argparse.Namespace, token: str) -> bytes:
+    """A change as the list has it: the program's words, and the lines of its file."""
+    if given.command == 'renew':
+        return f'renew --since {given.since}\n'.encode()
+    if given.command in ('import', 'replan'):
+        return f'{given.command}\n'.encode() + given.file.read_bytes()
+    if given.file:
+        return b'terminals --from\n' + given.file.read_bytes()
+    if given.revoke and not given.revoke.startswith('crew:'):
+        return f'terminals --revoke {given.revoke}\n'.encode()
+    return f'terminals --from\n{file_of(given.new or given.revoke, token)}'.encode()
+
+
+def tried(given: argparse.Namespace, text: bytes) -> None:
+    """Makes a change in the newest copy of this machine, to refuse it before it is put."""
+    if not Record('a', text, 'change').is_whole():
+        raise Refused(f'it is no change, or has more than {MOST_CHANGE} bytes')
+    newest = copies.copies_in(given.folder)
+    if not newest:
+        raise Refused(f'{given.folder} has no copy of the room')
+    with tempfile.TemporaryDirectory(prefix='part.', dir=given.folder) as folder:
+        file = pathlib.Path(folder) / 'room.db'
+        shutil.copyfile(newest[0].file, file)
+        digest, said = changing.make(given.program, file, text)
+        if not digest:
+            raise Refused(said.decode(errors='replace').strip())
+
+
+def made(kept: KeptList, text: bytes) -> bytes:
+    """Has a change made on all machines; gives what the program said. Where somebody was answered
+    otherwise meanwhile, it is begun again."""
+    for _ in range(TRIES):
+        number = kept.append(Record(secrets.token_hex(8), text, 'change'))
+        if number is None:
+            raise Refused('there is no list')
+        until, outcome = passed() + CHANGES_WITHIN + WAITS, None
+        while outcome is None and passed() < until:
+            time.sleep(TRY_EVERY)
+            outcome = next((it for _, it, _ in kept.values(f'{OUTCOMES}{number:012}')), None)
+        if outcome is None:
+            raise Refused(f'it is kept as record {number}, and no machine has made it yet')
+        if outcome != changing.OTHERWISE:
             break
-    number = found.entries[0].number
-    while time.monotonic() < until:
-        for _, outcome, _ in kept.values(f'{OUTCOMES}{number:012}'):
-            if outcome.startswith(b'refused: '):
-                raise Refused(outcome.decode(errors='replace').strip())
-            print(outcome.decode(errors='replace'), end='')
-            return
-        time.sleep(TRY_EVERY)
-    raise Refused(f'it is kept as record {number}, and no machine has played it yet')
+    return outcome
 
 
-def enrol(given: argparse.Namespace) -> None:
-    content = given.fleet.read_bytes()
-    if content.partition(b'\n')[0].strip() != FLEET_HEAD:
-        raise Refused(f'{given.fleet} does not begin as a fleet: {FLEET_HEAD.decode()}')
-    if len(content) > MOST_FLEET:
-        raise Refused(f'{given.fleet} has more than {MOST_FLEET} bytes: enrol it in parts')
-    put_record(given, Record(secrets.token_hex(8), content, 'fleet'))
-
-
-def token(given: argparse.Namespace) -> None:
-    record = Record(secrets.token_hex(8), f'{given.old} {given.new}'.encode(), 'token')
-    if not record.is_whole():
-        raise Refused('a token is 8 to 32 letters and digits')
-    put_record(given, record)
+def change(given: argparse.Namespace) -> None:
+    """Changes the room on all machines, as the program's own command does with one."""
+    token = secrets.token_hex(16)
+    text = text_of(given, token)
+    tried(given, text)
+    said = made(patient_list(given), text).decode(errors='replace')
+    if said.startswith('refused'):
+        raise Refused(said.strip())
+    print(f'{token}\n' if given.command == 'terminals' and given.new else said, end='')
 
 
 # ---- serving
@@ -159,7 +191,7 @@ async def place_to_begin(given: argparse.Namespace, starting: Starting) -> tuple
 async def run(given: argparse.Namespace) -> None:
     starting = Starting(given.machine)
     connections = Connections(starting.take)
-    connections.listen(*given.listen)
+    await connections.listen(*given.listen)
     sweeping = asyncio.create_task(connections.sweep())
     copy, place = await place_to_begin(given, starting)
     settings = Settings(given.machine, given.of, given.deadline, given.trust_clock, given.log,
@@ -191,14 +223,15 @@ def serve(given: argparse.Namespace) -> None:
         asyncio.run(run(given))
 
 
-COMMANDS = {'begin': begin, 'serve': serve, 'enrol': enrol, 'token': token,
-            'leave-out': repair.leave_out, 'replace': repair.replace,
-            'drop-list': repair.drop_list, 'mend': repair.mend, 'user': repair.user}
+COMMANDS = {'begin': begin, 'serve': serve, 'import': change, 'terminals': change,
+            'replan': change, 'renew': change, 'leave-out': repair.leave_out,
+            'replace': repair.replace, 'drop-list': repair.drop_list, 'mend': repair.mend,
+            'user': repair.user}
 
 
 def main(line: list[str]) -> int:
     os.umask(0o077)  # a room has the tokens of all terminals
-    given = words.words_of(line, __doc__)
+    given = words.words_of(line, __doc__, COMMANDS)
     status = 0
     try:
         COMMANDS[given.command](given)

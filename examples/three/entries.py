@@ -9,13 +9,16 @@ import typing
 from clocks import LAST_MOMENT
 
 MOST_RECORDS = 400  # of one entry; etcd takes one and a half megabytes
-MOST_FLEET = 1 << 18  # bytes of a fleet's file
+MOST_CHANGE = 1 << 18  # bytes of a change
 LAST_READ = 4  # entries that are known again, as the last one is heard, found and read
 # The head of a message as companions write it: no other is given to a room.
 WRITTEN_HEAD = (rb'[A-Z]{1,16} /[A-Za-z0-9/-]{0,127} HTTP/1\.1\r\nHost: room\r\n'
                 rb'X-Terminal: [A-Za-z0-9]{8,32}\r\nContent-Length: (\d{1,4})\r\n\r\n')
 WRITTEN = re.compile(WRITTEN_HEAD)
-TOKENS = re.compile(rb'([A-Za-z0-9]{8,32}) ([A-Za-z0-9]{8,32})')
+# The program's command, and the lines of its file.
+CHANGE = re.compile(rb'(import|replan|terminals --from)\n.+'
+                    rb'|terminals --revoke (desk|position):[1-9]\d{0,8}\n'
+                    rb'|renew --since \d{4}-\d\d-\d\d\n', re.S)
 NAME = re.compile(r'[0-9a-z-]{1,64}')
 NUMBER = rb'(0|[1-9][0-9]{0,11})'
 HEAD = re.compile(rb'entry 2 (\S+) %b %b %b\n' % (NUMBER, NUMBER, NUMBER))
@@ -40,31 +43,28 @@ class Place:
 
 
 class Record(typing.NamedTuple):
-    """What every room plays: a terminal's message, or a fleet to enrol, or a token to change; and
-    by whom it was put there."""
+    """What every room plays: a terminal's message; or a change that is begun, or that takes the
+    room's place, by its number, 0 where none does. And by whom it was put there."""
     name: str
     content: bytes
     kind: str = 'message'
-
-    def is_message(self) -> bool:
-        return self.kind == 'message'
 
     def is_whole(self) -> bool:
         """Whether a room can play it."""
         if not NAME.fullmatch(self.name):
             return False
-        if self.is_message():
+        if self.kind == 'message':
             found = WRITTEN.match(self.content)
             return bool(found) and len(self.content) == found.end() + int(found[1])
-        if self.kind == 'token':
-            return bool(TOKENS.fullmatch(self.content))
-        return self.kind == 'fleet' and len(self.content) <= MOST_FLEET
+        if self.kind == 'change':
+            return len(self.content) <= MOST_CHANGE and bool(CHANGE.fullmatch(self.content))
+        return self.kind == 'taken' and bool(re.fullmatch(NUMBER, self.content))
 
 
 @dataclasses.dataclass(frozen=True)
 class Entry:
-    """Records that were put together, behind the entry of this digest. The number is that of the
-    last of them."""
+    """Records that were put together, behind the entry of this digest: messages, or one that is
+    none. The number is that of the last of them."""
     before: str
     number: int
     moment: int
@@ -73,6 +73,10 @@ class Entry:
     @property
     def first(self) -> int:
         return self.number - len(self.records) + 1
+
+    @property
+    def has_messages(self) -> bool:
+        return all(it.kind == 'message' for it in self.records)
 
     @property
     def machine(self) -> int:
@@ -154,5 +158,7 @@ def entry_of(text: bytes) -> Entry:
                       tuple(records_of(text, head.end(), int(head[4]))))
     except UnicodeDecodeError:
         raise NoEntry('it has another form') from None
+    if len(found.records) > 1 and not found.has_messages:
+        raise NoEntry('a change stands beside another record')
     found.__dict__['text'] = text  # as it would be written
     return found

@@ -2,10 +2,8 @@
 terminals asked, in the lines of a room that is served."""
 import bisect
 import collections.abc
-import contextlib
 import json
 import pathlib
-import sqlite3
 import sys
 import time
 
@@ -15,6 +13,7 @@ from asks import Ask, no_answer
 from clocks import passed
 from machine import Machine
 from messages import Request
+from played_room import terminals_of
 from terminals import Reply
 from upkeep import WARNED, Upkeep
 
@@ -81,6 +80,7 @@ class Health:
                 'record': machine.tail.place.number, 'behind': machine.behind(),
                 'copy': machine.tail.copy.number, 'copied': round(passed() - upkeep.copied, 1),
                 'uncopied': machine.player.uncopied, 'free': upkeep.free,
+                'changing': machine.player.change.number if machine.player.change else 0,
                 'days': upkeep.days,
                 'lost': upkeep.lost,
                 'waiting': len(machine.unanswered),
@@ -107,6 +107,7 @@ class Health:
                 ('', '', {
                     'serving': not state['refuses'], 'record': state['record'],
                     'records_behind': state['behind'], 'waiting': state['waiting'],
+                    'change_record': state['changing'],
                     'copy_record': state['copy'], 'copy_age_seconds': state['copied'],
                     'copy_failed': bool(state['uncopied']), 'lost_copies': state['lost'],
                     'clock_ahead_seconds': state['ahead'], 'foreign_values': state['foreign'],
@@ -151,7 +152,5 @@ class Health:
         """Learns whose the tokens are, of a file that no program has open."""
         if not self.machine.settings.log:
             return
-        with contextlib.closing(sqlite3.connect(file)) as room:
-            rows = room.execute('SELECT token, role, number, callsign FROM terminals').fetchall()
         self.who = {token: callsign if role == 2 else f'{ROLES[role]} {number}'
-                    for token, role, number, callsign in rows}
+                    for token, (role, number, callsign) in terminals_of(file).items()}

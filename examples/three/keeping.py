@@ -5,7 +5,6 @@ import collections.abc
 import json
 import time
 
-import clocks
 import kept_list
 from asks import Ask, numbered
 from channel import Channel
@@ -18,8 +17,10 @@ from playing import Question
 from said import say
 
 ETCD_WITHIN = 1.0  # seconds that the member may be silent for, after which it is asked again
+PUT_WITHIN = 0.3  # the same of a put, which goes astray where the leader has just ended
+SLOW = 4  # times as long as a put takes, where etcd is busy
 READ_EVERY = 0.1  # seconds between two readings of a list that does not grow
-TRY_EVERY = 0.2  # seconds until what failed is tried again
+TRY_EVERY = 0.1  # seconds until what failed is tried again
 MOST_ALONG = 0.03  # seconds that a question waits for a put to take it along
 
 
@@ -37,8 +38,9 @@ class Keeping:
 
     def __init__(self, machine: Machine, reach: Reach):
         self.machine = machine
-        self.reading, self.questioning, self.hearing, *self.writing = (
-            Channel(reach, ETCD_WITHIN) for _ in range(5))
+        self.reading, self.questioning = (Channel(reach, ETCD_WITHIN) for _ in range(2))
+        self.writing = [Channel(reach, PUT_WITHIN) for _ in range(2)]
+        self.hearing = Channel(reach, float('inf'))
         self.flying: list[Entry] = []  # the entries that are on their way
         self.put = float('-inf')  # when the last one was put
         self.is_sound = True  # no entry was refused that others on their way are to stand behind
@@ -112,22 +114,24 @@ class Keeping:
         """Puts asks behind the last entry that is known or on its way; whether all that stands
         there now is known."""
         machine = self.machine
-        moment = min(clocks.moment(), clocks.LAST_MOMENT)
-        if machine.wrong_clock(moment):
+        if machine.clocks.fault():
             return False  # it was set since it was looked at
         place = self.flying[-1].place if self.flying else machine.tail.place
-        entry = entry_behind(place, moment, [Record(it.name, it.request.message) for it in asks])
+        entry = entry_behind(place, machine.clocks.middle(),
+                             [Record(it.name, it.request.message) for it in asks])
         for it in asks:
             it.is_sent = it.is_flying = True
         self.flying.append(entry)
-        self.put, is_kept = time.monotonic(), False
-        began = self.put
+        began, is_kept = time.monotonic(), False
+        self.put = began
+        by.within = min(max(PUT_WITHIN, SLOW * machine.turns.takes), ETCD_WITHIN)
         try:
-            found = kept_list.kept(entry, await by.ask(TXN, kept_list.keeping(place, entry)))
+            found = kept_list.kept(entry, await by.ask(TXN, kept_list.keeping(
+                place, entry, machine.seen)))
             is_kept = found is not None
         finally:
             self.land(entry, asks, is_kept)
-        machine.turns.note_time(time.monotonic() - began)
+            machine.turns.note_time(time.monotonic() - began)
         if not found:
             return (await self.read(by, True)).is_all
         machine.learn(found)

@@ -6,12 +6,14 @@ import collections.abc
 import dataclasses
 import re
 
-from entries import Entry, NoEntry, Place, entry_behind, entry_of
-from etcd import Member, coded, decoded
+from entries import Entry, NoEntry, Place, Record, entry_behind, entry_of
+from etcd import Member, Unreached, coded, decoded
 
 ROOM = 'room/2/'  # by the version of what an entry is
 LIST, AFTER_LIST = f'{ROOM}list/', f'{ROOM}list0'
 HEAD = f'{ROOM}head'  # the place of the last entry
+OUTCOMES = f'{ROOM}outcomes/'  # what became of changes, by their records
+TOLD = 100_000  # records behind a change in which its outcome is told
 MOST_READ = 100  # entries that are read at once
 HEAD_FORM = re.compile(rb'(0|[1-9][0-9]{0,11}) ([0-9a-f]{64})')
 
@@ -130,10 +132,13 @@ def reading(known: Place, is_latest: bool) -> dict:
     return transaction([], looks(known, not is_latest))
 
 
-def keeping(known: Place, entry: Entry) -> dict:
-    """Has an entry put behind the place that is known, where that is the list's end. Where that is
-    asked again after Unreached, for the same place, at most one of both is done."""
-    return transaction([is_value(HEAD, known.text())], [
+def keeping(known: Place, entry: Entry, revision: int) -> dict:
+    """Has an entry put behind the place that is known, where that is the list's end, and nothing
+    was put behind it since a revision by which all that stands there was seen. Where that is asked
+    again after Unreached, for the same place, at most one of both is done."""
+    is_seen = span(key_of(known.number + 1), AFTER_LIST) | {
+        'target': 'MOD', 'result': 'LESS', 'mod_revision': str(revision + 1)}
+    return transaction([is_value(HEAD, known.text()), is_seen], [
         put(key_of(entry.number), entry.text), put(HEAD, entry.place.text())])
 
 
@@ -236,9 +241,28 @@ class KeptList:
 
     def keep(self, known: Place, moment: int, records: list) -> Found:
         """Puts an entry behind the place that is known; gives what stands there now."""
+        found = self.read(known, True)
+        if not found.is_all or found.entries:
+            return found
         entry = entry_behind(known, moment, records)
-        return (kept(entry, self.member.ask(TXN, keeping(known, entry)))
-                or self.read(known, True))
+        asked = keeping(known, entry, found.revision)
+        return kept(entry, self.member.ask(TXN, asked)) or self.read(known, True)
+
+    def append(self, record: Record, moment: int = 0) -> int | None:
+        """Puts a record at the list's end; gives its number, or none where there is no list. Where
+        etcd is silent it is put again at the same place, so it is not there twice."""
+        heads = [head_of(value) for _, value, _ in self.values(HEAD)]
+        entry = self.entry(heads[0].number) if heads and heads[0] else None
+        place = entry.place if entry else None
+        while place:
+            found = self.keep(place, moment, [record])
+            if found.fault:
+                raise Unreached(found.fault)
+            for it in found.entries:
+                place = it.place
+                if it.records == (record,):
+                    return it.number
+        return None
 
     def begin(self, first: Entry) -> Entry | None:
         """Makes the first entry where there is no list; gives the one that is there."""
@@ -247,8 +271,11 @@ class KeptList:
         return self.entry(0)
 
     def drop_before(self, number: int) -> int:
-        """Deletes the entries before the one that ends with this record; gives the revision."""
-        answer = self.change([], [delete(span(key_of(0), key_of(number)))])
+        """Deletes the entries before the one that ends with this record, and outcomes of long
+        before; gives the revision."""
+        told = f'{OUTCOMES}{max(number - TOLD, 0):012}'
+        answer = self.change([], [delete(span(key_of(0), key_of(number))),
+                                  delete(span(OUTCOMES, told))])
         return int(answer['header']['revision'])
 
     def values(self, prefix: str) -> collections.abc.Iterator[tuple[str, bytes, int]]:

@@ -5,7 +5,6 @@ import collections.abc
 import dataclasses
 import secrets
 
-import clocks
 from asks import Ask, no_answer, numbered
 from clocks import OtherClocks, passed
 from copies import Copy
@@ -50,7 +49,8 @@ class Machine:
         self.player = Player(how, self.tail)
         self.player.give, self.player.lose = self.give, self.lose_questions
         self.player.is_awaited = lambda entry: entry.machine == settings.machine
-        self.clocks = OtherClocks()
+        self.clocks = OtherClocks(settings.trusts_clock)
+        self.player.clock = self.clocks.middle
         self.connections = connections
         self.turns = Turns(settings.machine, settings.of)
         self.run, self.asked = f'{settings.machine}-{secrets.token_hex(8)}', 0
@@ -61,7 +61,7 @@ class Machine:
         self.stopping = asyncio.Event()
         self.reached = self.agreed = self.moved = self.beaten = passed()
         self.held = float('-inf')
-        self.revision = 0
+        self.revision = self.seen = 0  # of etcd: the last one, and by which all entries are known
         self.stopped = self.full = self.fault = ''
         self.foreign: set[str] = set()
         self.is_serving = False
@@ -98,16 +98,8 @@ class Machine:
             return 'it was held'
         if len(self.unanswered) >= MOST_WAITING:
             return 'too many wait'
-        return (self.fault or self.stopped or self.full or self.wrong_clock(clocks.moment())
+        return (self.fault or self.stopped or self.full or self.clocks.fault()
                 or ('most members of etcd are silent' if now - self.agreed > AGREES_WITHIN else ''))
-
-    def wrong_clock(self, moment: int) -> str:
-        ahead = self.clocks.ahead(moment)
-        if ahead is None:
-            return '' if self.settings.trusts_clock else 'no other machine tells its clock'
-        if abs(ahead) > clocks.APART:
-            return f'the clock is {abs(ahead)} s {"ahead of" if ahead > 0 else "behind"} the others'
-        return ''
 
     def behind(self) -> int:
         return self.tail.place.number - self.player.played
@@ -125,7 +117,7 @@ class Machine:
         now = passed()
         self.asked += 1
         ask = Ask(f'{self.run}-{self.asked}', request, now, now + self.settings.deadline, reply)
-        if self.why_not():
+        if self.why_not() or request.token in self.player.held:
             self.answer(ask, no_answer('no'))
             return
         self.unanswered[ask.name] = ask
@@ -182,6 +174,8 @@ class Machine:
         if not self.behind():
             self.moved = self.reached
         self.revision = max(self.revision, found.revision)
+        if found.is_all:
+            self.seen = max(self.seen, found.revision)
         if found.is_all or found.entries or found.fault:
             self.fault = found.fault
         if found.fault:

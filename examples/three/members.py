@@ -8,6 +8,9 @@ HERE = pathlib.Path(__file__).resolve().parent
 COMPANION = HERE / 'companion.py'
 NUMBERS = range(1, 4)
 QUOTA = 2 << 30  # bytes of etcd's file: its own default
+# Milliseconds. Where the leader is killed, the others choose another one after one to two of the
+# latter. etcd's own second is for members that are far apart; these are in one house.
+HEARTBEAT, ELECTION = 50, 400
 
 Command = list[str | pathlib.Path]
 
@@ -36,6 +39,7 @@ class Machine:
                 'advertise-client-urls': client, 'listen-peer-urls': peer,
                 'initial-advertise-peer-urls': peer, 'initial-cluster': ','.join(members),
                 'initial-cluster-token': 'dispatch-room', 'pre-vote': 'true',
+                'heartbeat-interval': str(HEARTBEAT), 'election-timeout': str(ELECTION),
                 'quota-backend-bytes': str(self.quota)} | self.secured()
 
     def secured(self) -> dict[str, str]:

@@ -17,7 +17,6 @@ import typing
 
 from answers import LATER, SOON, Answers
 from copies import Copy
-from entries import Record
 
 DIGEST = pathlib.Path(__file__).resolve().parent / 'digest.py'
 OPENS_WITHIN = 120.0  # seconds in which a program that opens the file has to do something
@@ -51,6 +50,16 @@ def is_whole(copy: Copy) -> bool:
     return done.stdout.strip() == copy.room
 
 
+def terminals_of(file: pathlib.Path) -> dict[str, tuple[int, int, str]]:
+    """Whose each token is, by role, number and callsign, of a file that no program has open."""
+    try:
+        with contextlib.closing(sqlite3.connect(file)) as room:
+            rows = room.execute('SELECT token, role, number, callsign FROM terminals').fetchall()
+    except sqlite3.Error as error:
+        raise OSError(f'{file}: {error}') from None
+    return {token: tuple(who) for token, *who in rows}
+
+
 def worked(process: int) -> int:
     """Ticks of the processor that a process has had."""
     try:
@@ -77,12 +86,8 @@ class PlayedRoom:
         self.within, self.worked = OPENS_WITHIN, 0
 
     async def start(self) -> None:
-        """Starts the program over the copy, or where it was ended well over what it left."""
-        is_copy = not self.file.exists()
-        if is_copy:
-            await asyncio.to_thread(shutil.copyfile, self.copy.file, self.file)
-        digest = self.copy.room if is_copy else await asyncio.to_thread(
-            digest_of, self.program, self.file)
+        """Starts the program over the copy."""
+        await asyncio.to_thread(shutil.copyfile, self.copy.file, self.file)
         source, sink = os.pipe()
         self.answers = Answers(source, self.take)
         try:
@@ -91,8 +96,8 @@ class PlayedRoom:
                 stdin=asyncio.subprocess.PIPE, stdout=sink, start_new_session=True)
         finally:
             os.close(sink)
-        self.process.stdin.write(f'room 2 {digest}\n'.encode())
-        self.within, self.worked, self.heard = OPENS_WITHIN, 0, time.monotonic()
+        self.process.stdin.write(f'room 2 {self.copy.room}\n'.encode())
+        self.heard = time.monotonic()
 
     def send(self, moment: int, asked: collections.abc.Sequence, is_awaited: bool) -> None:
         """Hands the room what has a message, and whether somebody waits for the answers. They are
@@ -154,32 +159,3 @@ class PlayedRoom:
         if self.answers:
             self.answers.close()
         shutil.rmtree(self.folder, ignore_errors=True)
-
-    # ---- what the program does only while no room is played
-
-    def enrol(self, fleet: bytes) -> bytes:
-        """Enrols vehicles; gives what the program said of each row that it left out."""
-        rows = self.folder / 'fleet.csv'
-        rows.write_bytes(fleet)
-        done = subprocess.run([self.program, 'import', self.file, rows], capture_output=True)
-        if done.returncode not in (0, 1):
-            raise Ended(f'the room takes no fleet: {done.stderr.decode(errors="replace")}')
-        return done.stdout + (done.stderr if done.returncode else b'')
-
-    def change_token(self, old: str, new: str) -> bytes:
-        """Gives a terminal another token, where that is nobody's. The program tests the file as it
-        opens it."""
-        with contextlib.closing(sqlite3.connect(self.file)) as room:
-            try:
-                found = room.execute('UPDATE terminals SET token = ? WHERE token = ?', (new, old))
-                room.commit()
-            except sqlite3.IntegrityError:
-                return b'refused: the token is given\n'
-            return b'changed\n' if found.rowcount else b'refused: no such terminal\n'
-
-    def perform(self, record: Record) -> bytes:
-        """Does what a record says that is no message; the program is ended."""
-        if record.kind == 'fleet':
-            return self.enrol(record.content)
-        old, new = record.content.decode().split(' ')
-        return self.change_token(old, new)

@@ -5,11 +5,12 @@ import collections
 import collections.abc
 import dataclasses
 import hashlib
-import itertools
 import pathlib
+import shutil
 import typing
 
 import copies
+from changing import OTHERWISE, Change
 from clocks import LAST_MOMENT, moment
 from copies import Copy
 from entries import Entry, Place, Record
@@ -20,6 +21,8 @@ MOST_HANDED = 300  # messages that the room may have and not have answered
 MOST_KNOWN = 20_000  # records of which the digest of all answers is known
 TRY_EVERY = 0.2  # seconds until what failed is tried again
 COPIES_AGAIN = 10.0  # seconds until a copy that failed is tried again
+NEVER = 1 << 62  # records until a copy
+FITS = 3  # times a copy's size that is to be free where it is played: it grows, and has a log
 COMMON = 3  # every so many copies, there is one behind the same record on all machines
 NOBODY = (b'GET /queue HTTP/1.1\r\nHost: room\r\nX-Terminal: 00000000\r\n'
           b'Content-Length: 0\r\n\r\n')
@@ -47,6 +50,14 @@ class Playing:
         def passes(every: int, shift: int) -> bool:
             return (entry.number + shift) // every > (entry.first - 1 + shift) // every
         return passes(self.copy_every, self.shift) or passes(COMMON * self.copy_every, 0)
+
+    def where(self, copy: Copy) -> pathlib.Path:
+        """The folder in which a copy is played: that of copies where the other is too small, as a
+        folder in memory may be."""
+        if shutil.disk_usage(self.work).free >= FITS * copy.file.stat().st_size:
+            return self.work
+        say(f'{self.work} is too small: the room is played in {self.folder}', 'work')
+        return self.folder
 
 
 class Tail:
@@ -78,9 +89,13 @@ class Player:
         self.is_stopping = self.wants_copy = self.is_open = self.is_odd = False
         self.copying: asyncio.Task | None = None
         self.uncopied = ''  # why the last copy failed
-        # Whether terminals of this machine wait for an entry. And what the machine takes: the
-        # answer of a record, that the room ended with all questions that it had, what became of a
-        # record that is no message, and a file that no program has open.
+        self.room: PlayedRoom | None = None
+        self.change: Change | None = None  # that was begun, and is not made yet
+        self.held: set[str] = set()  # tokens that a change takes away: what they ask is not kept
+        # What the time is, and whether terminals of this machine wait for an entry. And what the
+        # machine takes: the answer of a record, that the room ended with all questions that it had,
+        # what became of a change, and a file that no program has open.
+        self.clock: collections.abc.Callable[[], int] = moment
         self.is_awaited: collections.abc.Callable[[Entry], bool] = lambda _: False
         self.give: collections.abc.Callable[[Record, int, bytes], None] = lambda *_: None
         self.lose: collections.abc.Callable[[], None] = lambda: None
@@ -101,16 +116,21 @@ class Player:
                 say(error)
                 await asyncio.sleep(TRY_EVERY)
 
+    def beside(self, copy: Copy, place: Place) -> 'Player':
+        """Who plays a copy that is to take the place of this room."""
+        how = dataclasses.replace(self.how, copy_every=NEVER, shift=0)
+        return Player(how, Tail(copy, place))
+
     async def play_from_copy(self) -> None:
         copy = self.tail.copy
         self.played = self.sent = copy.number
         self.answers = {copy.number: bytes.fromhex(copy.answers)}
-        room = PlayedRoom(self.how.program, copy, self.how.work, self.take_all)
+        self.room = PlayedRoom(self.how.program, copy, self.how.where(copy), self.take_all)
         try:
-            await self.start(room)
+            await self.start()
             while not self.is_stopping:
-                await self.feed(room)
-            await self.end(room)
+                await self.feed()
+            await self.end()
         except Ended:
             if not self.is_open and not await asyncio.to_thread(is_whole, copy):
                 raise Changed(f'not the room of the list any more: {copies.set_aside(copy)}'
@@ -120,58 +140,94 @@ class Player:
             self.is_open = False
             self.questions.clear()
             self.lose()
-            await room.drop()
+            await self.drop_change()
+            await self.room.drop()
 
-    async def start(self, room: PlayedRoom) -> None:
+    async def start(self) -> None:
         """Starts the program. Its first answer, to nobody's question, says that it has opened the
         room."""
-        self.is_open = False
-        await asyncio.to_thread(self.look_at, room.file if room.file.exists() else room.copy.file)
-        await room.start()
-        room.send(self.moment(), [Question(NOBODY, self.note_open)], True)
+        await asyncio.to_thread(self.look_at, self.room.copy.file)
+        await self.room.start()
+        self.room.send(self.moment(), [Question(NOBODY, self.note_open)], True)
 
     def note_open(self, *_: object) -> None:
         self.is_open = True
         self.changed.set()
 
-    async def feed(self, room: PlayedRoom) -> None:
+    async def feed(self) -> None:
         """Hands the room what is next, or waits for it."""
+        room = self.room
         room.look()
         entry = self.tail.entries.get(self.sent + 1)
         if self.questions and self.questions[0][0] <= self.sent:
             room.send(self.moment(), self.questions.popleft()[1], True)
-        elif self.wants_copy and not room.waiting and self.played > self.tail.copy.number:
-            await self.copy(room, self.place_played())
+        elif self.wants_copy and self.may_copy() and not room.waiting:
+            await self.copy(self.place_played())
         elif entry and len(room.waiting) < MOST_HANDED:
-            await self.hand(room, entry)
+            await self.hand(entry)
             if self.how.is_time_to_copy(entry):
-                await self.copy(room, entry.place)
+                await self.quiet()
+                self.wants_copy = True  # now, or once no change is being made
+                if self.may_copy():
+                    await self.copy(entry.place)
         else:
             self.changed.clear()
             await self.changed.wait()
 
     def moment(self) -> int:
         """That of a question: it is not before any record's."""
-        return min(max(self.tail.place.moment, moment()), LAST_MOMENT)
+        return min(max(self.tail.place.moment, self.clock()), LAST_MOMENT)
 
-    async def hand(self, room: PlayedRoom, entry: Entry) -> None:
+    async def hand(self, entry: Entry) -> None:
         """Hands the room an entry's records."""
-        for is_message, records in itertools.groupby(entry.records, Record.is_message):
-            if is_message:
-                room.send(entry.moment, list(records), self.is_awaited(entry))
-            else:
-                for it in records:
-                    await self.perform(room, it)
+        if entry.has_messages:
+            self.room.send(entry.moment, entry.records, self.is_awaited(entry))
+            if self.change:
+                self.change.follow(entry)
+            self.sent = entry.number
+            return
+        await self.quiet()
+        [record] = entry.records
         self.sent = entry.number
+        if record.kind == 'change':
+            await self.drop_change(b'refused: another change came\n')
+            self.change = Change(self, entry)
+            self.take_all([(record, b'begun')])
+            await self.change.begin(self.room.file)
+        else:
+            self.take_all([(record, await self.take_over(int(record.content)))])
 
-    async def perform(self, room: PlayedRoom, record: Record) -> None:
-        """Does what a record says that is no message, while no program has the file open."""
-        await self.quiet(room)
-        await room.end()
-        outcome = await asyncio.to_thread(room.perform, record)
-        self.take_all([(record, outcome)])
-        await asyncio.to_thread(self.note, self.played, outcome)
-        await self.start(room)
+    # ---- changes
+
+    async def take_over(self, number: int) -> bytes:
+        """Has the copy in which a change was made take the place of the room, where both have
+        answered alike since; gives what became of the change."""
+        change = self.change
+        if not change or number not in (0, change.number):
+            return b'refused: no such change was begun'
+        outcome = b'refused: not every machine could make it\n'
+        if number:
+            await change.reach()
+            outcome = change.outcome
+            if change.player and change.player.answers[self.played] != self.answers[self.played]:
+                outcome = OTHERWISE
+            elif change.player:
+                await asyncio.to_thread(self.look_at, change.file)
+                self.room, change.player.room = change.player.room, self.room
+                self.room.take_all = self.take_all
+                self.wants_copy = True
+        if outcome != OTHERWISE:  # else it comes again
+            self.held = set()
+        await self.drop_change(outcome)
+        return outcome
+
+    async def drop_change(self, outcome: bytes = b'') -> None:
+        """Ends what makes a change, and reports what became of it, where that is known."""
+        change, self.change = self.change, None
+        if change:
+            await change.drop()
+            if outcome:
+                await asyncio.to_thread(self.note, change.number, outcome)
 
     def take_all(self, answered: list[tuple[Record | Question, bytes]]) -> None:
         """Takes answers of the room, in its order."""
@@ -187,27 +243,30 @@ class Player:
         if self.played == self.sent:
             self.changed.set()
 
-    async def quiet(self, room: PlayedRoom) -> None:
+    async def quiet(self) -> None:
         """Waits until the room has answered all that it was handed."""
-        while room.waiting:
-            room.look()
+        while self.room.waiting:
+            self.room.look()
             await asyncio.sleep(0.001)
 
     # ---- copies
 
-    async def copy(self, room: PlayedRoom, place: Place) -> None:
+    def may_copy(self) -> bool:
+        """Whether a copy may be made now. While a change is being made none is, as a start behind
+        its record could not make it; and of a room that is the odd one none: it would take the
+        place of one that is right."""
+        return self.played > self.tail.copy.number and not (self.change or self.is_odd)
+
+    async def copy(self, place: Place) -> None:
         """Copies the files of the room while it has nothing to do. What is made of them, with a
-        test of every row, takes its time beside the room. A copy that fails stops nothing. Of a
-        room that is the odd one none is made: it would take the place of one that is right."""
+        test of every row, takes its time beside the room. A copy that fails stops nothing."""
         self.wants_copy = False
-        if self.is_odd:
-            return
         if self.copying:
             await asyncio.wait([self.copying])
-        await self.quiet(room)
+        await self.quiet()
         part = self.how.folder / f'part.{place.number}'
         try:
-            await asyncio.to_thread(copies.take, room.file, part)
+            await asyncio.to_thread(copies.take, self.room.file, part)
         except OSError as error:
             self.fail_copy(part, place, error)
             return
@@ -233,14 +292,14 @@ class Player:
         say(self.uncopied, 'copy')
         asyncio.get_running_loop().call_later(COPIES_AGAIN, setattr, self, 'wants_copy', True)
 
-    async def end(self, room: PlayedRoom) -> None:
+    async def end(self) -> None:
         """Ends the program well, and keeps a copy of what it leaves."""
-        await self.quiet(room)
-        await room.end()
+        await self.quiet()
+        await self.room.end()
         if self.copying:
             await asyncio.wait([self.copying])
-        if self.played > self.tail.copy.number:
-            await self.copy(room, self.place_played())
+        if self.may_copy():
+            await self.copy(self.place_played())
             if self.copying:
                 await asyncio.wait([self.copying])
 

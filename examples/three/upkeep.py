@@ -2,6 +2,7 @@
 compares theirs, and keeps the list short and etcd within its quota."""
 import asyncio
 import json
+import secrets
 import shutil
 import time
 
@@ -10,17 +11,18 @@ import copies
 from certificates import WARNED as WARNED_DAYS
 from clocks import passed
 from comparison import Comparison
+from entries import Record
 from etcd import Member, Reach, Sizes, Unreached
 from keeping import ETCD_WITHIN
-from kept_list import ROOM, KeptList, put
+from kept_list import OUTCOMES, ROOM, KeptList, put
 from machine import Machine
 from said import say
 
 WORDS = f'{ROOM}machines/'  # what each machine reports of itself
 COPIES = f'{ROOM}copies/'  # up to which record each machine has a copy, and one that is sure
 OUT = f'{ROOM}out/'  # machines that are not counted
-OUTCOMES = f'{ROOM}outcomes/'  # of records that are no messages
 REPORTS_EVERY, REPORTS_WITHIN = 1.0, 5.0  # seconds
+CHANGES_WITHIN = 600.0  # seconds that all machines have to make a change in a copy
 SILENT = 5.0  # seconds without a word of a machine, which then does not count
 MEASURES_EVERY = 5.0  # seconds between two looks at etcd's quota
 COPIES_APART = 10.0  # seconds between copies of a machine whose etcd is half full
@@ -50,6 +52,7 @@ class Upkeep:
         self.words: dict[int, dict] = {}  # what the other machines last reported
         self.comparison = Comparison(machine.settings.of)
         self.sizes = Sizes()
+        self.settled = 0  # the change that this machine has had taken over, or given up
         self.lost = 0  # copies that were set aside
         self.free: dict[str, int] = {}  # bytes of the folders for copies and for the room
         self.days: dict[str, int] = {}  # until each certificate of this machine ends
@@ -76,6 +79,7 @@ class Upkeep:
             self.report_word()
             self.compare()
             self.report_copy()
+            self.settle()
         finally:
             if passed() - self.measured > MEASURES_EVERY:
                 self.measured = passed()
@@ -102,8 +106,10 @@ class Upkeep:
         machine = self.machine
         number, made = machine.player.played, copies.copies_in(machine.player.how.folder)
         answers = machine.player.answers.get(number, b'').hex()
+        change = machine.player.change
         word = {'clock': clocks.moment(), 'played': number, 'copy': machine.tail.copy.number,
-                'answers': answers, 'rooms': {str(it.number): it.room for it in made}}
+                'answers': answers, 'rooms': {str(it.number): it.room for it in made},
+                'ready': change.ready() if change else 0}
         self.kept.change([], [put(f'{WORDS}{self.me}', json.dumps(word))])
         machine.agreed = passed()  # most members took it
         for key, value, revision in self.kept.values(WORDS):
@@ -119,8 +125,9 @@ class Upkeep:
         """Hears a machine; what stood there before this one started may be of another list."""
         try:
             word = json.loads(value)
-            if self.machine.clocks.hear(other, revision, int(word['clock'])):
-                self.compare_with(other, int(word['played']), word.get('answers', ''),
+            word |= {it: int(word[it]) for it in ('clock', 'played', 'copy')}
+            if self.machine.clocks.hear(other, revision, word['clock']):
+                self.compare_with(other, word['played'], word.get('answers', ''),
                                   word.get('rooms', {}))
             self.words[other] = word
         except (ValueError, KeyError, TypeError, AttributeError):
@@ -144,6 +151,23 @@ class Upkeep:
             machine.player.is_odd = True
             say(self.comparison.odd)
             copies.note_agreed(machine.player.how.folder, self.comparison.last_agreed())
+
+    # ---- changes
+
+    def settle(self) -> None:
+        """Has a change taken over once all machines that are there have made it, or given up where
+        one can't. One machine does that, and another if it goes."""
+        change, silent_for = self.machine.player.change, self.machine.clocks.silent_for
+        there = [it for it in self.others if silent_for(it) < SILENT]
+        is_mine = self.machine.is_serving and self.me < min([*there, self.me + 1])
+        if not (change and is_mine) or change.number == self.settled:
+            return
+        ready = {change.ready(), *(self.words.get(it, {}).get('ready') for it in there)}
+        is_made = ready == {change.number}
+        if is_made or -change.number in ready or passed() - change.began > CHANGES_WITHIN:
+            number = change.number if is_made else 0
+            self.kept.append(Record(secrets.token_hex(8), b'%d' % number, 'taken'))
+            self.settled = change.number
 
     # ---- copies
 
@@ -178,11 +202,11 @@ class Upkeep:
             self.compact(kept, kept.drop_before(first) - revisions)
 
     def report_outcome(self, number: int, outcome: bytes) -> None:
-        """Reports what became of a record that is no message."""
+        """Reports what became of a change."""
         kept = KeptList(Member(self.kept.member.reach, REPORTS_WITHIN))
-        say(f'record {number}: {outcome.decode(errors="replace").strip() or "done"}')
+        say(f'change {number}: {outcome.decode(errors="replace").strip()}')
         try:
-            kept.change([], [put(f'{OUTCOMES}{number:012}', outcome or b'done\n')])
+            kept.change([], [put(f'{OUTCOMES}{number:012}', outcome)])
         except Unreached as reason:
             say(reason)
 

@@ -1,5 +1,6 @@
 """The words of a companion's command line, and the list that they name."""
 import argparse
+import collections.abc
 import ipaddress
 import pathlib
 
@@ -8,6 +9,7 @@ from etcd import Member, PatientMember, Reach
 from keeping import ETCD_WITHIN
 from kept_list import KeptList
 
+COPIES = pathlib.Path('/var/lib/dispatch-room-three/room')
 WAITS = 60.0  # seconds that a command waits for the machines
 
 
@@ -70,6 +72,11 @@ def patient_list(given: argparse.Namespace) -> KeptList:
     return KeptList(PatientMember(reach_of(given), ETCD_WITHIN, WAITS))
 
 
+def add_program(parser: argparse.ArgumentParser) -> None:
+    parser.add_argument('--program', metavar='PROGRAM', default='dispatch_room',
+                        help='the program that plays (%(default)s)')
+
+
 def add_serve(parser: argparse.ArgumentParser) -> None:
     parser.add_argument('folder', metavar='FOLDER', type=pathlib.Path,
                         help="the machine's copies")
@@ -77,8 +84,7 @@ def add_serve(parser: argparse.ArgumentParser) -> None:
     parser.add_argument('--machine', metavar='N', type=int, required=True,
                         help="this machine's number, from 1")
     parser.add_argument('--of', metavar='N', type=int, default=3, help='machines (%(default)s)')
-    parser.add_argument('--program', metavar='PROGRAM', default='dispatch_room',
-                        help='the program that plays (%(default)s)')
+    add_program(parser)
     parser.add_argument('--work', metavar='FOLDER', type=pathlib.Path,
                         help='where the room is played; one in memory is faster (FOLDER)')
     parser.add_argument('--deadline', metavar='SECONDS', type=float, default=3.0,
@@ -96,27 +102,34 @@ def add_serve(parser: argparse.ArgumentParser) -> None:
                         help='write a line for each answer on standard error')
 
 
-def words_of(line: list[str], about: str) -> argparse.Namespace:
+def add_changes(found: dict[str, argparse.ArgumentParser]) -> None:
+    for it in 'import', 'replan', 'terminals', 'renew':
+        found[it].add_argument('--folder', metavar='FOLDER', type=pathlib.Path, default=COPIES,
+                               help="the machine's copies (%(default)s)")
+        add_program(found[it])
+    for it in 'import', 'replan':
+        found[it].add_argument('file', metavar='FILE', type=pathlib.Path)
+    found['renew'].add_argument('--since', metavar='DAY', required=True)
+    which = found['terminals'].add_mutually_exclusive_group(required=True)
+    which.add_argument('--new', metavar='WHO', help='desk:1, position:3 or crew:A1: a new token')
+    which.add_argument('--revoke', metavar='WHO', help='none')
+    which.add_argument('--from', dest='file', metavar='FILE', type=pathlib.Path,
+                       help='those of a plan or a fleet')
+
+
+def words_of(line: list[str], about: str, names: collections.abc.Iterable[str]
+             ) -> argparse.Namespace:
+    """The words of a line that begins with the name of a command."""
     parser = argparse.ArgumentParser(prog='companion.py', description=about,
                                      formatter_class=argparse.RawDescriptionHelpFormatter)
     commands = parser.add_subparsers(required=True, metavar='COMMAND', dest='command')
-    found = {name: commands.add_parser(name, help=text) for name, text in {
-        'begin': "make a room's file this machine's first copy",
-        'serve': 'serve terminals', 'enrol': 'enrol vehicles on all machines',
-        'token': 'give a terminal another token',
-        'leave-out': 'let the list go on without a machine',
-        'replace': "make a machine's member of etcd a new one",
-        'mend': 'have the list end where its entries do',
-        'drop-list': 'end the list, for another one',
-        'user': 'have etcd take nothing without its user'}.items()}
+    found = {name: commands.add_parser(name) for name in names}
     for it in found.values():
         add_etcd(it)
     found['begin'].add_argument('room', metavar='ROOM', type=pathlib.Path)
     found['begin'].add_argument('folder', metavar='FOLDER', type=pathlib.Path)
     add_serve(found['serve'])
-    found['enrol'].add_argument('fleet', metavar='FLEET', type=pathlib.Path)
-    found['token'].add_argument('old', metavar='OLD')
-    found['token'].add_argument('new', metavar='NEW')
+    add_changes(found)
     for it in 'leave-out', 'replace':
         found[it].add_argument('number', metavar='N', type=int, choices=range(1, 10))
     given = parser.parse_args(line)

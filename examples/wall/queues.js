@@ -45,16 +45,17 @@ function aboutOf(entry, { incidents, points, vehicles, lent }) {
   if (OF_INCIDENTS.includes(entry.rank)) return incidents.get(entry.number) ?? {};
   if (entry.rank === POINT_SHORT) return { place: points.get(entry.number)?.place };
   const held = vehicles.get(entry.vehicle);
-  const place = (held ?? lent.get(entry.vehicle))?.place;
+  const place = (entry.report ?? held ?? lent.get(entry.vehicle))?.place;
   return { class: incidents.get(held?.incident)?.class, place };
 }
 
 function updateEntry(node, entry, known, offset) {
-  const [who, why] = entryWords(entry);
+  const clock = (moment) => timeOf(moment, offset);
+  const [who, why] = entryWords(entry, clock);
   const { class: level, place } = aboutOf(entry, known);
   const isTimed = entry.rank !== POINT_SHORT;
   set(node, { 'data-rank': entry.rank,
-    title: `${who}: ${why}${isTimed ? `, since ${timeOf(entry.since, offset)}` : ''}` });
+    title: `${who}: ${why}${isTimed ? `, since ${clock(entry.since)}` : ''}` });
   set(node.level, { 'data-class': level ?? '', title: level ? `class ${level}` : 'no class' });
   setText(node.level, String(level ?? '\u2013'));
   setText(node.who, who);

@@ -10,23 +10,22 @@ here.
 The page is then at http://127.0.0.1:8081/."""
 import argparse
 import csv
-import email.utils
-import http.client
 import json
 import os
 import pathlib
 import sys
 import threading
 import time
+import urllib.parse
 
+from exceptions import Exceptions
+from room_lists import NoAnswer, get
 from page_server import KINDS, Page, PageServer, Refused, area_of, loopback
 
 HERE = pathlib.Path(__file__).resolve().parent
 
 READ_EVERY = 2.0  # seconds between two readings of the room, from start to start
-ANSWER_WITHIN = 3.0  # seconds that the room may be silent for
 PAGE_WAITS = 1.0  # seconds that a page waits for a reading
-LONGEST_ANSWER = 16 << 20  # bytes
 ASKED_OF_A_DESK = 'vehicles', 'incidents', 'points', 'queue'
 
 # ---- the words of the command line
@@ -73,38 +72,24 @@ class Plan:
 # ---- reading the room
 
 
-class NoAnswer(Exception):
-    """What the room gave in place of an answer."""
+class Desk:
+    """A desk of the room, as far as the wall asks for it."""
 
+    def __init__(self, room, division, token):
+        self.room, self.division, self.token = room, division, token
+        self.exceptions = Exceptions()
 
-def get(room, token, what):
-    """One GET of the room over a connection of its own, which is closed again; gives the list of
-    that name, and the moment of the answer."""
-    connection = http.client.HTTPConnection(*room, timeout=ANSWER_WITHIN)
-    try:
-        connection.request('GET', f'/{what}', headers={'X-Terminal': token, 'Connection': 'close'})
-        with connection.getresponse() as answer:
-            content = answer.read(LONGEST_ANSWER)
-            if answer.status != 200:
-                raise NoAnswer(f'It answers with status {answer.status}.')
-            date = email.utils.parsedate_to_datetime(answer.headers['Date'])
-            return list(json.loads(content)[what]), int(date.timestamp())
-    except TimeoutError:
-        raise NoAnswer('It is silent.') from None
-    except OSError:
-        raise NoAnswer('It takes no connection.') from None
-    except (http.client.HTTPException, ValueError, TypeError, KeyError, RecursionError):
-        raise NoAnswer('Its answer can not be read.') from None
-    finally:
-        connection.close()
+    def read(self):
+        """What the desk sees, and when. The answers are of moments close to each other."""
+        seen = {'division': self.division}
+        for what in ASKED_OF_A_DESK:
+            seen[what], seen['moment'] = get(self.room, self.token, what)
+        self.exceptions.explain(seen['queue'], self.reports_of)
+        return seen
 
-
-def read_desk(room, division, token):
-    """What one desk sees, and when. The four answers are of moments close to each other."""
-    seen = {'division': division}
-    for what in ASKED_OF_A_DESK:
-        seen[what], seen['moment'] = get(room, token, what)
-    return seen
+    def reports_of(self, vehicle):
+        path = f'vehicles/{urllib.parse.quote(vehicle, safe="")}/reports'
+        return get(self.room, self.token, path)[0]
 
 
 class Reader(threading.Thread):
@@ -113,7 +98,7 @@ class Reader(threading.Thread):
 
     def __init__(self, room, tokens):
         super().__init__(daemon=True)
-        self.room, self.tokens = room, tokens
+        self.desks = [Desk(room, *it) for it in sorted(tokens.items())]
         self.changed = threading.Condition()
         self.is_wanted = False
         self.began = float('-inf')
@@ -127,7 +112,7 @@ class Reader(threading.Thread):
                 self.changed.wait_for(lambda: self.is_wanted)
                 self.is_wanted, self.began = False, time.monotonic()
             try:
-                self.keep([read_desk(self.room, *it) for it in sorted(self.tokens.items())])
+                self.keep([it.read() for it in self.desks])
             except NoAnswer as error:
                 self.keep(None, str(error))
 

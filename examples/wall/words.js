@@ -54,16 +54,25 @@ const ENTRIES = {
   1: (it) => [`Incident ${it.number}`, 'nobody sent'],
   2: (it) => [it.vehicle, `order not acknowledged, incident ${it.number}`],
   3: (it) => [it.vehicle, `late for incident ${it.number}`],
-  4: (it) => [it.vehicle, `report ${it.number} came out of turn`],
+  4: (it, clock) => [it.vehicle, it.report ? reportWords(it, clock)
+    : `report ${it.number} came out of turn`],
   5: (it) => [it.vehicle, `loan is over, division ${it.number}`],
   6: (it) => [it.vehicle, 'shift is over'],
   7: (it) => [`Point ${it.number}`, 'short of cover'],
   8: (it) => [it.vehicle, `offer not answered, division ${it.number}`],
 };
 
-export function entryWords(entry) {
+/** What a report was that wants an eye: its button, what came of it, and of which order. */
+function reportWords({ number, since, report: { button, outcome, order } }, clock) {
+  return `${button.charAt(0).toUpperCase()}${button.slice(1)}: ${outcome}, `
+    + `${order ? `order ${order}` : 'no order'}, ${clock(since)}, report ${number}`;
+}
+
+/** The words of an entry, which has its report where the room says what that was; the clock gives
+    the time of day of a moment. */
+export function entryWords(entry, clock) {
   const words = ENTRIES[entry.rank];
-  return words ? words(entry) : [entry.vehicle, `rank ${entry.rank}`];
+  return words ? words(entry, clock) : [entry.vehicle, `rank ${entry.rank}`];
 }
 
 export function vehicleWords(it, offset) {

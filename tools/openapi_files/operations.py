@@ -24,6 +24,7 @@ SUMMARIES = {
     'Accept': "Takes another division's offer.",
     'Recall': 'Asks for a vehicle that is lent.',
     'GiveBack': 'Gives a borrowed vehicle back.',
+    'Reports': "A vehicle's reports, with what became of each.",
     'Queue': 'What needs an eye, the most urgent first.',
     'Clear': 'Clears an exceptional report out of the queue.',
     'Points': 'The standby points of the division, each with how many vehicles hold it.',

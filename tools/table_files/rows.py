@@ -87,6 +87,8 @@ OPENED_BEFORE = Condition('opened', 'Int to', 'below-integers (pos x.opened) to'
 HAS_OUTCOME = Condition('outcome', 'outcome_code o',
                         'equal-numbers (outcome_number x.outcome) (outcome_number o)',
                         'outcome_number x.outcome == outcome_number o')
+OF_VEHICLE = Condition('callsign', 'Text c', 'tie-texts x.callsign c',
+                       'is_eq (callsign_cmp c x.callsign)')
 IS_UNCLEARED = Condition('cleared', 'truth false', 'equal-false x.cleared', 'not x.cleared')
 
 META = Table('meta', 'meta', 'List ℕ', ('1',), of='config', field='zone', field_type='List ℕ',
@@ -118,6 +120,7 @@ CHANGED = (
     Table('reports', 'report', 'Report', ('x.callsign', 'x.number'), loads=(
         load('uncleared_reports', {'o': 'Outcome', 'd': 'ℕ'},
              HAS_OUTCOME, IS_UNCLEARED, equal_number('division', 'd')),
+        load('reports_of', {'c': 'Callsign', 'd': 'ℕ'}, OF_VEHICLE, equal_number('division', 'd')),
     ), inserts=True),
     Table('offers', 'offer', 'Offer', ('x.callsign',), drops=True),
 )

@@ -6,14 +6,14 @@
 ghost use Rattle.std.specs.Prelude.{◌≡◌, ◌≢◌, ◌≤◌, ◌<◌, IfErr, IfOk, Err, length, map};
 ghost use Rattle.std.specs.Prelude.{string_bytes};
 ghost use Rattle.std.specs.IoError.{error_kind};
-ghost use Rattle.dispatch_room_cli.specs.ExitStatus.{status_after};
-ghost use Rattle.dispatch_room_cli.specs.declared.exit_status.Failure.TheVariants.{Memory};
+ghost use Rattle.dispatch_room_exit.specs.ExitStatus.{status_after};
+ghost use Rattle.dispatch_room_exit.specs.declared.exit_status.Failure.TheVariants.{Memory};
 ghost use Rattle.dispatch_room_commands.specs.TaskSteps.{IsCommand};
 ghost use Rattle.dispatch_room_dry_run.specs.DryRunEnds.{IsRun};
 
-use dispatch_room_cli::exit_status::{Failure, end};
 use dispatch_room_commands::commands::{USAGE, command};
 use dispatch_room_dry_run::standard_streams::run;
+use dispatch_room_exit::exit_status::{Failure, end};
 use std::env;
 use std::io::{self, ErrorKind, Write};
 use std::process::ExitCode;

@@ -1,6 +1,6 @@
 -- What a decision asks of a room, it is answered alike without what stays behind.
 use Rattle.std.proofs.Common.{ap, arith, eqb-true, inl, inr, subst, sym, ◌∙◌}
-use Rattle.std.specs.List.{cons_option}
+use Rattle.std.specs.List.{cons_option, list_any}
 use Rattle.std.specs.Prelude.{Bool, List, None, Option, Some, [], cond, false, filter, filter_map}
 use Rattle.std.specs.Prelude.{int_le, int_lt, is_none, length, not, pos, refl, true, ℕ, ℤ, ◌&&◌}
 use Rattle.std.specs.Prelude.{◌<◌, ◌==◌, ◌||◌, ◌∷◌, ◌≡◌}
@@ -19,14 +19,14 @@ use Rattle.room_types.specs.declared.tables.Report.{Report}
 use Rattle.room_types.specs.declared.tables.Turn.{Turn}
 use Rattle.room_types.specs.declared.tables.Vehicle.{Vehicle}
 use Rattle.room_model.proofs.Sights.{SeesCover, SeesIncident, SeesVehicle}
-use Rattle.room_model.proofs.Tests.{among_filter, any_filter, filter_among, filter_filter}
-use Rattle.room_model.proofs.Tests.{left_true, none_of, right_true, row_among}
+use Rattle.room_model.proofs.Tests.{among_filter, any_filter, either_true, filter_among}
+use Rattle.room_model.proofs.Tests.{filter_filter, left_true, none_of, right_true, row_among}
 use Rattle.room_model.proofs.WorkingDesk.{found_active}
 use Rattle.room_model.specs.Proposals.{eligible}
 use Rattle.room_model.specs.Queries.{active_incidents, calls_of, held, holders, incident_of}
-use Rattle.room_model.specs.Queries.{incidents_opened, is_attended, is_candidate, is_nearer}
-use Rattle.room_model.specs.Queries.{kept_call, kept_report, lent, link_target, open_turn, point_of}
-use Rattle.room_model.specs.Queries.{served, turns_of, vehicle_at}
+use Rattle.room_model.specs.Queries.{incidents_opened, is_attended, is_candidate, is_given}
+use Rattle.room_model.specs.Queries.{is_nearer, kept_call, kept_report, lent, link_target}
+use Rattle.room_model.specs.Queries.{open_turn, point_of, served, turns_of, vehicle_at}
 use Rattle.room_model.specs.Room.{Room}
 use Rattle.room_model.specs.RoomAgreements.{IsWellFormed}
 use Rattle.dispatch_room_archive.proofs.RenewedAgreements.{active_stays, open_stays}
@@ -48,6 +48,36 @@ filter_map_passing {X} {Y} f q (x ∷ xs) h =
       | true ↦ λ e. ap (λ (zs : List Y). cons_option (f x) zs) rest
       | false ↦ λ e. rest ∙ sym (ap (λ (o : Option Y). cons_option o (filter_map f xs)) (h x (inl refl) e))
     ]) refl
+
+pub left_false : (x y : Bool) → x || y ≡ false → x ≡ false
+left_false true y e = e
+left_false false y e = refl
+
+pub right_false : (x y : Bool) → x || y ≡ false → y ≡ false
+right_false true y e = cc
+right_false false y e = e
+
+pub of_both : (x y : Bool) → x ≡ true → x && y ≡ false → y ≡ false
+of_both true y e f = f
+of_both false y e f = cc
+
+-- where no element passes, a given one doesn't
+pub none_passes : {X : Type 0} (p : X → Bool) (xs : List X) (x : X) → list_any p xs ≡ false
+    → Among x xs → p x ≡ false
+none_passes p [] x none m = absurd m
+none_passes p (y ∷ ys) x none m = elim m [
+  | inl same ↦ ap p same ∙ left_false (p y) (list_any p ys) none
+  | inr later ↦ none_passes p ys x (right_false (p y) (list_any p ys) none) later
+]
+
+-- nor does a number that some call was given, where none passes of those that they were given
+given_spared : (p : ℕ → Bool) (n : ℕ) (cs : List Call) → list_any (λ c. p c.given) cs ≡ false
+    → is_given cs n ≡ true → p n ≡ false
+given_spared p n [] none given = cc
+given_spared p n (c ∷ cs) none given = elim (either_true (c.given == n) (is_given cs n) given) [
+  | inl same ↦ ap p (sym (eqb-true c.given n same)) ∙ left_false (p c.given) _ none
+  | inr later ↦ given_spared p n cs (right_false (p c.given) _ none) later
+]
 
 -- a moment from a time on is not before an earlier one
 pub not_before : (from : ℤ) (now since : ℕ) → int_lt from (pos since) ≡ false
@@ -105,13 +135,6 @@ module _ (since : ℕ) (b : Behind) (r : Room) (w : IsWellFormed r) (h : StaysBe
         ap not (of_its_number d n t.division t.incident spared (left_true _ _ g)
         (left_true _ _ (right_true (t.division == d) _ g))))
 
-    pub turns_same : turns_of d n new ≡ turns_of d n r
-    unfolding turns_of
-    turns_same =
-        filter_filter _ (λ t. not (b.incident t.division t.incident)) r.turns
-        (λ t g.
-        ap not (of_its_number d n t.division t.incident spared (left_true _ _ g) (right_true (t.division == d) _ g)))
-
     pub calls_same : calls_of d n new ≡ calls_of d n r
     unfolding calls_of
     calls_same =
@@ -119,6 +142,25 @@ module _ (since : ℕ) (b : Behind) (r : Room) (w : IsWellFormed r) (h : StaysBe
         (λ c m g.
         ap not (call_among c m
         ∙ of_its_number d n c.division c.incident spared (left_true _ _ g) (right_true (c.division == d) _ g)))
+
+    -- with the turns of those that were merged into it, where none of these stayed behind
+    shown_spared : list_any (λ c. b.incident d c.given) (calls_of d n r) ≡ false → (t : Turn)
+        → t.division == d && (t.incident == n || is_given (calls_of d n r) t.incident) ≡ true
+        → not (b.incident t.division t.incident) ≡ true
+    shown_spared none t g = elim (either_true (t.incident == n) _ (right_true (t.division == d) _ g)) [
+      | inl same ↦ ap not (of_its_number d n t.division t.incident spared (left_true _ _ g) same)
+      | inr given ↦
+          ap not (ap (λ x. b.incident x t.incident) (eqb-true t.division d (left_true _ _ g))
+          ∙ given_spared (λ m. b.incident d m) t.incident (calls_of d n r) none given)
+    ]
+
+    pub turns_same : list_any (λ c. b.incident d c.given) (calls_of d n r) ≡ false
+        → turns_of d n new ≡ turns_of d n r
+    unfolding turns_of
+    turns_same none =
+        ap (λ cs. filter (λ (t : Turn). t.division == d && (t.incident == n || is_given cs t.incident)) new.turns)
+        calls_same
+        ∙ filter_filter _ (λ t. not (b.incident t.division t.incident)) r.turns (shown_spared none)
 
     pub sees_same : SeesIncident d n new r
     sees_same = record { same_incident = incident_same; same_served = served_same; same_attended = attended_same }

@@ -10,10 +10,10 @@ use Rattle.room_place.specs.Plans.{Layout}
 use Rattle.room_store_check_rows.specs.declared.summaries.Summary.{Summary}
 use Rattle.room_store_file.specs.ExaminedFile.{ExplainsFile, HasCause, IsSummaryOf}
 use Rattle.room_store_file.specs.declared.examined_file.Wrong.{Wrong}
-use Rattle.dispatch_room_cli.specs.declared.exit_status.Done.{Done}
-use Rattle.dispatch_room_cli.specs.declared.exit_status.Done.TheVariants.{Whole}
-use Rattle.dispatch_room_cli.specs.declared.exit_status.Failure.{Failure}
-use Rattle.dispatch_room_cli.specs.declared.exit_status.Failure.TheVariants.{File, Network}
+use Rattle.dispatch_room_exit.specs.declared.exit_status.Done.{Done}
+use Rattle.dispatch_room_exit.specs.declared.exit_status.Done.TheVariants.{Whole}
+use Rattle.dispatch_room_exit.specs.declared.exit_status.Failure.{Failure}
+use Rattle.dispatch_room_exit.specs.declared.exit_status.Failure.TheVariants.{File, Network}
 use Rattle.dispatch_room_archive.specs.Examination.{HasChecked, PrintsWrong, failure_of}
 use Rattle.dispatch_room_archive.specs.Examination.{no_rule_text, summary_text}
 use Rattle.room_tables_schema.specs.FileConnections.{IsClean}

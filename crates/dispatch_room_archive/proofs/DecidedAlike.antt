@@ -1,10 +1,11 @@
 -- An event that doesn't speak of what stayed behind is decided alike without it.
-use Rattle.std.proofs.Common.{ap, eqb-true, inl, inr, subst, sym, ◌∙◌}
-use Rattle.std.specs.Prelude.{Bool, Err, None, Option, Some, cond, false, refl, true, ℕ, ◌==◌, ◌||◌}
-use Rattle.std.specs.Prelude.{◌≡◌}
+use Rattle.std.proofs.Common.{ap, eq-eqb, eqb-true, inl, inr, subst, sym, ◌∙◌}
+use Rattle.std.specs.List.{list_any}
+use Rattle.std.specs.Prelude.{Bool, Err, None, Option, Some, cond, false, not, refl, true, ℕ, ◌&&◌}
+use Rattle.std.specs.Prelude.{◌==◌, ◌||◌, ◌≡◌}
 use Rattle.room_place.specs.Plans.{division_of}
 use Rattle.room_types.specs.KeyedRows.{keep, row_at}
-use Rattle.room_types.specs.Keys.{numbered_cmp, report_key}
+use Rattle.room_types.specs.Keys.{numbered_cmp, report_key, same_callsign}
 use Rattle.room_types.specs.Texts.{Callsign}
 use Rattle.room_types.specs.declared.asks.Ask.{Ask}
 use Rattle.room_types.specs.declared.asks.NewCall.{NewCall}
@@ -15,7 +16,7 @@ use Rattle.room_types.specs.declared.tables.Call.{Call}
 use Rattle.room_types.specs.declared.tables.Report.{Report}
 use Rattle.room_types.specs.declared.tables.Vehicle.{Vehicle}
 use Rattle.room_model.proofs.AskLaws.{asked_same}
-use Rattle.room_model.proofs.Tests.{either_true}
+use Rattle.room_model.proofs.Tests.{either_true, filter_among}
 use Rattle.room_model.proofs.Sights.{SeesAsked}
 use Rattle.room_model.specs.Calls.{call_in, call_kept, call_somewhere, call_taken, new_call}
 use Rattle.room_model.specs.Calls.{take_call}
@@ -23,7 +24,7 @@ use Rattle.room_model.specs.Decisions.{refuse_if, show}
 use Rattle.room_model.specs.Queries.{all_held, assignment_at, assignment_of, borrowed, held}
 use Rattle.room_model.specs.Queries.{kept_call, kept_report, last_number, loans_of, offered_by}
 use Rattle.room_model.specs.Queries.{offered_to, offers_of, point_of, points_of, report_of}
-use Rattle.room_model.specs.Queries.{vehicle_at}
+use Rattle.room_model.specs.Queries.{reports_of, vehicle_at}
 use Rattle.room_model.specs.Queue.{clear, clear_found}
 use Rattle.room_model.specs.Reports.{report_held, report_in, report_kept, report_somewhere}
 use Rattle.room_model.specs.Reports.{take_report}
@@ -34,8 +35,9 @@ use Rattle.room_model.specs.WorkingRows.{NamedIncidents, NoIncident, OneIncident
 use Rattle.room_model.specs.WorkingRows.{incidents_named, is_among}
 use Rattle.dispatch_room_archive.proofs.AskedAlike.{actives_same, calls_same, cover_same}
 use Rattle.dispatch_room_archive.proofs.AskedAlike.{eligible_same, kept_call_same, kept_report_same}
-use Rattle.dispatch_room_archive.proofs.AskedAlike.{open_turn_same, opened_same, sees_same}
-use Rattle.dispatch_room_archive.proofs.AskedAlike.{shown_stays, target_same, turns_same}
+use Rattle.dispatch_room_archive.proofs.AskedAlike.{left_false, none_passes, of_both}
+use Rattle.dispatch_room_archive.proofs.AskedAlike.{open_turn_same, opened_same, right_false}
+use Rattle.dispatch_room_archive.proofs.AskedAlike.{sees_same, shown_stays, target_same, turns_same}
 use Rattle.dispatch_room_archive.proofs.AskedAlike.{vehicle_same}
 use Rattle.dispatch_room_archive.proofs.QueueAlike.{entries_same}
 use Rattle.dispatch_room_archive.proofs.RowsLeft.{report_gone}
@@ -45,14 +47,6 @@ use Rattle.dispatch_room_archive.specs.Successor.{Behind, without}
 use Rattle.room_types.specs.declared.answers.Answer.TheVariants as answer
 use Rattle.room_types.specs.declared.asks.Ask.TheVariants as ask
 use Rattle.room_types.specs.declared.refusal_statuses.Refusal.TheVariants as refusal
-
-left_false : (x y : Bool) → x || y ≡ false → x ≡ false
-left_false true y e = e
-left_false false y e = refl
-
-right_false : (x y : Bool) → x || y ≡ false → y ≡ false
-right_false true y e = cc
-right_false false y e = e
 
 module _ (since : ℕ) (b : Behind) (r : Room) (w : IsWellFormed r) (h : StaysBehind since b r) where
   abbrev new : Room
@@ -80,6 +74,18 @@ module _ (since : ℕ) (b : Behind) (r : Room) (w : IsWellFormed r) (h : StaysBe
         λ e. ap (λ o. clear_found (keep (λ (x : Report). x.division == d) o)) (kept_report_same since b r w h c n e)
   ]) refl
 
+  -- a vehicle's reports, where none of them stayed behind
+  reports_same : (d : ℕ) (c : Callsign)
+      → list_any (λ x. (x.division == d && same_callsign c x.callsign) && b.report x.callsign x.number) r.reports
+      ≡ false → reports_of d c new ≡ reports_of d c r
+  unfolding reports_of
+  reports_same d c none =
+      filter_among _ (λ x. not (b.report x.callsign x.number)) r.reports
+      (λ x m g.
+      ap not (of_both (x.division == d && same_callsign c x.callsign) _ g
+      (none_passes (λ x. (x.division == d && same_callsign c x.callsign) && b.report x.callsign x.number) r.reports x
+      none m)))
+
   -- an incident that is named is there, where none that stayed behind is named
   spared : (d n : ℕ) (named : NamedIncidents) → stayed_behind b d named ≡ false
       → is_among named n ≡ true → b.incident d n ≡ false
@@ -90,7 +96,7 @@ module _ (since : ℕ) (b : Behind) (r : Room) (w : IsWellFormed r) (h : StaysBe
     | inr f ↦ subst (λ k. b.incident d k ≡ false) (eqb-true k n f) (right_false (b.incident d m) _ e)
   ]
 
-  sees_new : (d : ℕ) (a : Ask) (at : ℕ) → names_behind b d a ≡ false → looks_back since a ≡ false
+  sees_new : (d : ℕ) (a : Ask) (at : ℕ) → names_behind b d a ≡ false → looks_back since b d r a ≡ false
       → SeesAsked d a at new r
   unfolding all_held assignment_of point_of points_of offered_by offered_to offers_of loans_of borrowed
   sees_new d a at e g =
@@ -103,14 +109,16 @@ module _ (since : ℕ) (b : Behind) (r : Room) (w : IsWellFormed r) (h : StaysBe
         same_point = λ n f. refl;
         same_last_turn = λ c v f k. open_turn_same since b r w h d c;
         cleared_alike = λ c n f. cleared_same d c n;
+        same_reports = λ c f. reports_same d c (rw f at g);
         incident = λ n f. sees_same since b r w h d n (spared d n (incidents_named a) e f);
         same_calls = λ n f k. calls_same since b r w h d n (spared d n (incidents_named a) e f);
-        same_turns = λ n f. turns_same since b r w h d n (spared d n (incidents_named a) e f);
+        same_turns = λ n f. turns_same since b r w h d n
+            (spared d n (incidents_named a) e (rw f (eq-eqb n n refl))) (rw f at g);
         same_active = λ f. actives_same since b r w h d;
         active = λ f i m. sees_same since b r w h d i.number (shown_stays since b r w h d i m);
         same_active_calls = λ f k i m. calls_same since b r w h d i.number (shown_stays since b r w h d i m);
         same_opened = λ from to f.
-            opened_same since b r w h d from to (subst (λ x. looks_back since x ≡ false) f g);
+            opened_same since b r w h d from to (subst (λ x. looks_back since b d r x ≡ false) f g);
         same_entries = λ f. entries_same since b r w h d at;
         same_all_held = λ f. refl;
         same_assignment = λ f c. refl;
@@ -121,7 +129,7 @@ module _ (since : ℕ) (b : Behind) (r : Room) (w : IsWellFormed r) (h : StaysBe
         same_offers = λ f. refl;
       }
 
-  desk_same : (d : ℕ) (a : Ask) (at : ℕ) → names_behind b d a ≡ false → looks_back since a ≡ false
+  desk_same : (d : ℕ) (a : Ask) (at : ℕ) → names_behind b d a ≡ false → looks_back since b d r a ≡ false
       → desk_asks d a at new ≡ desk_asks d a at r
   desk_same d a at e g = asked_same d new r a at (sees_new d a at e g)
 
@@ -175,7 +183,7 @@ module _ (since : ℕ) (b : Behind) (r : Room) (w : IsWellFormed r) (h : StaysBe
   crew_same c ask.Last at e = refl
   crew_same c a at e = refl
 
-  pub who_same : (who : Who) (a : Ask) (at : ℕ) → asks_back since b who a ≡ false
+  pub who_same : (who : Who) (a : Ask) (at : ℕ) → asks_back since b who r a ≡ false
       → sends_again b who a ≡ false → who_asks who a at new ≡ who_asks who a at r
   who_same (Desk d) a at e g =
       desk_same d a at (left_false (names_behind b d a) _ e) (right_false (names_behind b d a) _ e)

@@ -42,23 +42,23 @@ module _ (since : ℕ) (b : Behind) (old new : Room) (w : IsWellFormed old)
   }
 
   -- what doesn't speak of the past is decided alike
-  pub decided_same : asks_of_the_past since b e ≡ false → repeats_the_past b e ≡ false
+  pub decided_same : asks_of_the_past since b old e ≡ false → repeats_the_past b e ≡ false
       → decided e new ≡ decided e old
   decided_same f g = ap (decided e) is.rows ∙ who_same since b old w is.behind e.who e.ask e.at f g
 
   -- what a desk asks of the past changes neither room
-  pub nothing_old : asks_of_the_past since b e ≡ true → changes_of (decided e old) ≡ []
+  pub nothing_old : asks_of_the_past since b old e ≡ true → changes_of (decided e old) ≡ []
   nothing_old f = asks_nothing since b old is.behind e.who e.ask e.at f
 
-  pub nothing_new : asks_of_the_past since b e ≡ true → changes_of (decided e new) ≡ []
+  pub nothing_new : asks_of_the_past since b old e ≡ true → changes_of (decided e new) ≡ []
   nothing_new f =
       ap (λ r. changes_of (decided e r)) is.rows ∙ asks_none since b old is.behind w.order e.who e.ask e.at f
 
   changes_same : repeats_the_past b e ≡ false
       → changes_of (decided e new) ≡ changes_of (decided e old)
   changes_same g =
-      (elim (asks_of_the_past since b
-      e) as (λ (x : Bool). asks_of_the_past since b e ≡ x → changes_of (decided e new) ≡ changes_of (decided e old)) [
+      (elim (asks_of_the_past since b old
+      e) as (λ (x : Bool). asks_of_the_past since b old e ≡ x → changes_of (decided e new) ≡ changes_of (decided e old)) [
         | true ↦ λ f. nothing_new f ∙ sym (nothing_old f)
         | false ↦ λ f. ap changes_of (decided_same f g)
       ]) refl

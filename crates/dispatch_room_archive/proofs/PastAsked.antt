@@ -30,7 +30,8 @@ use Rattle.room_model.specs.DayTimes.{show_times, times_line, times_of}
 use Rattle.room_model.specs.Decisions.{answer_of, changes_of, show, with_changes}
 use Rattle.room_model.specs.Events.{by_crew, by_desk, by_position}
 use Rattle.room_model.specs.Queries.{borrowed, held, incident_of, incidents_opened, kept_call}
-use Rattle.room_model.specs.Queries.{kept_report, open_turn, vehicle_at}
+use Rattle.room_model.specs.Queries.{kept_report, open_turn, reports_of, vehicle_at}
+use Rattle.room_model.specs.Queue.{show_reports}
 use Rattle.room_model.specs.Reports.{report_held, report_in, report_kept, report_row}
 use Rattle.room_model.specs.Reports.{report_somewhere, with_report}
 use Rattle.room_model.specs.Room.{IsInOrder, Room, apply}
@@ -60,9 +61,12 @@ filters_turned : {X : Type 0} (p q : X → Bool) (xs : List X)
 filters_turned p q [] = refl
 filters_turned p q (x ∷ xs) = turned_at p q x (filter q xs) (filter p xs) (p x) (q x) refl refl (filters_turned p q xs)
 
-looks_quiet : (since d : ℕ) (a : Ask) → looks_back since a ≡ true → IsQuiet (Desk d) a
-looks_quiet since d (ask.Times from to) e = refl
-looks_quiet since d a e = cc
+looks_quiet : (since : ℕ) (b : Behind) (d : ℕ) (r : Room) (a : Ask)
+    → looks_back since b d r a ≡ true → IsQuiet (Desk d) a
+looks_quiet since b d r (ask.Times from to) e = refl
+looks_quiet since b d r (ask.Reports c) e = refl
+looks_quiet since b d r (ask.Incident n) e = refl
+looks_quiet since b d r a e = cc
 
 module _ (since : ℕ) (b : Behind) (r : Room) (h : StaysBehind since b r) where
   abbrev new : Room
@@ -90,11 +94,11 @@ module _ (since : ℕ) (b : Behind) (r : Room) (h : StaysBehind since b r) where
       idle_changes_nothing d r named.0 a at named.1.0
       (is_idle (incident_of d named.0 r) (h.incidents d named.0 named.1.1))
 
-  pub asks_nothing : (who : Who) (a : Ask) (at : ℕ) → asks_back since b who a ≡ true
+  pub asks_nothing : (who : Who) (a : Ask) (at : ℕ) → asks_back since b who r a ≡ true
       → changes_of (decided (record { who = who; ask = a; at = at }) r) ≡ []
-  asks_nothing (Desk d) a at e = elim (either_true (names_behind b d a) (looks_back since a) e) [
+  asks_nothing (Desk d) a at e = elim (either_true (names_behind b d a) (looks_back since b d r a) e) [
     | inl f ↦ names_nothing d a at f
-    | inr f ↦ quiet_shows at r (Desk d) a (looks_quiet since d a f)
+    | inr f ↦ quiet_shows at r (Desk d) a (looks_quiet since b d r a f)
   ]
   asks_nothing (Position p) a at e = cc
   asks_nothing (Crew c) a at e = cc
@@ -130,11 +134,11 @@ module _ (since : ℕ) (b : Behind) (r : Room) (h : StaysBehind since b r) where
         let named = of_named d (incidents_named a) e in
         absent_is_refused d new named.0 a at named.1.0 (none_there d named.0 named.1.1)
 
-    pub asks_none : (who : Who) (a : Ask) (at : ℕ) → asks_back since b who a ≡ true
+    pub asks_none : (who : Who) (a : Ask) (at : ℕ) → asks_back since b who r a ≡ true
         → changes_of (decided (record { who = who; ask = a; at = at }) new) ≡ []
-    asks_none (Desk d) a at e = elim (either_true (names_behind b d a) (looks_back since a) e) [
+    asks_none (Desk d) a at e = elim (either_true (names_behind b d a) (looks_back since b d r a) e) [
       | inl f ↦ ap changes_of (names_none d a at f)
-      | inr f ↦ quiet_shows at new (Desk d) a (looks_quiet since d a f)
+      | inr f ↦ quiet_shows at new (Desk d) a (looks_quiet since b d r a f)
     ]
     asks_none (Position p) a at e = cc
     asks_none (Crew c) a at e = cc
@@ -223,3 +227,11 @@ unfolding show_times incidents_opened
 times_left b r d from to at =
     ap (λ is. show (answer.Times (times_of from to (map times_line is))))
     (filters_turned _ (λ i. not (b.incident i.division i.number)) r.incidents)
+
+-- ---- a vehicle's reports that are left
+pub reports_left : (b : Behind) (r : Room) (d : ℕ) (c : Callsign) (at : ℕ)
+    → decided (by_desk d (ask.Reports c) at) (without b r)
+    ≡ show (answer.Reports (filter (λ x. not (b.report x.callsign x.number)) (reports_of d c r)))
+unfolding show_reports reports_of
+reports_left b r d c at =
+    ap (λ xs. show (answer.Reports xs)) (filters_turned _ (λ x. not (b.report x.callsign x.number)) r.reports)

@@ -29,7 +29,7 @@ use Rattle.room_store_file.specs.ExaminedFile.{HoldsAll, IsSummaryOf}
 use Rattle.room_store_writes.specs.Configurations.{config_of}
 use Rattle.room_store_writes.specs.NewRoom.{StandsWith, in_order, new_room}
 use Rattle.room_tables.specs.RoomsInTables.{Stands}
-use Rattle.dispatch_room_cli.specs.declared.exit_status.Failure.{Failure}
+use Rattle.dispatch_room_exit.specs.declared.exit_status.Failure.{Failure}
 use Rattle.dispatch_room_archive.specs.Renewal.{IsLeftBy, IsLeftSince, IsMomentOf, IsNoStart}
 use Rattle.dispatch_room_archive.specs.Renewal.{IsStart, StandsRenewed, last_moment}
 use Rattle.dispatch_room_archive.specs.TimesReport.{IsSpanOf}

@@ -1,9 +1,10 @@
 -- How a room and the one that was made of it go on, when both get the same events.
+use Rattle.std.specs.List.{list_any}
 use Rattle.std.specs.Prelude.{Bool, List, None, Ok, Option, Some, [], false, int_lt, is_some, pos}
-use Rattle.std.specs.Prelude.{true, ℕ, ◌<◌, ◌||◌, ◌∷◌, ◌≡◌}
+use Rattle.std.specs.Prelude.{true, ℕ, ◌<◌, ◌&&◌, ◌==◌, ◌||◌, ◌∷◌, ◌≡◌}
 use Rattle.room_types.specs.KeyedRows.{keep, put_row}
 use Rattle.room_types.specs.Codes.{is_active, is_normal}
-use Rattle.room_types.specs.Keys.{numbered_cmp, report_key}
+use Rattle.room_types.specs.Keys.{numbered_cmp, report_key, same_callsign}
 use Rattle.room_types.specs.Texts.{Callsign}
 use Rattle.room_types.specs.declared.answers.Answer.TheVariants.{Reported}
 use Rattle.room_types.specs.declared.asks.Ask.{Ask}
@@ -16,7 +17,8 @@ use Rattle.room_types.specs.declared.tables.Incident.{Incident}
 use Rattle.room_types.specs.declared.tables.Report.{Report}
 use Rattle.room_types.specs.declared.tables.Vehicle.{Vehicle}
 use Rattle.room_model.specs.Events.{by_crew}
-use Rattle.room_model.specs.Queries.{incident_of, kept_call, kept_report, last_serial, vehicle_at}
+use Rattle.room_model.specs.Queries.{calls_of, incident_of, kept_call, kept_report, last_serial}
+use Rattle.room_model.specs.Queries.{vehicle_at}
 use Rattle.room_model.specs.Reports.{report_row}
 use Rattle.room_model.specs.Room.{Room}
 use Rattle.room_model.specs.Step.{answer_to, room_after}
@@ -63,19 +65,24 @@ stayed_behind b d (TwoIncidents n m) = b.incident d n || b.incident d m
 abbrev pub names_behind : Behind → ℕ → Ask → Bool
 names_behind b d a = stayed_behind b d (incidents_named a)
 
--- it asks for times from before that moment
-abbrev pub looks_back : ℕ → Ask → Bool
-looks_back since (ask.Times from to) = int_lt from (pos since)
-looks_back since a = false
+-- it asks for times from before that moment, for a vehicle's reports of which one stayed behind, or
+-- for the history of an incident into which one that stayed behind was merged
+abbrev pub looks_back : ℕ → Behind → ℕ → Room → Ask → Bool
+looks_back since b d r (ask.Times from to) = int_lt from (pos since)
+looks_back since b d r (ask.Reports c) =
+    list_any (λ x. (x.division == d && same_callsign c x.callsign) && b.report x.callsign x.number)
+    r.reports
+looks_back since b d r (ask.Incident n) = list_any (λ c. b.incident d c.given) (calls_of d n r)
+looks_back since b d r a = false
 
-abbrev pub asks_back : ℕ → Behind → Who → Ask → Bool
-asks_back since b (Desk d) a = names_behind b d a || looks_back since a
-asks_back since b (Position p) a = false
-asks_back since b (Crew c) a = false
+abbrev pub asks_back : ℕ → Behind → Who → Room → Ask → Bool
+asks_back since b (Desk d) r a = names_behind b d a || looks_back since b d r a
+asks_back since b (Position p) r a = false
+asks_back since b (Crew c) r a = false
 
--- a desk asks of what stayed behind
-abbrev pub asks_of_the_past : ℕ → Behind → Event → Bool
-asks_of_the_past since b e = asks_back since b e.who e.ask
+-- a desk asks of what stayed behind, out of the old room
+abbrev pub asks_of_the_past : ℕ → Behind → Room → Event → Bool
+asks_of_the_past since b old e = asks_back since b e.who old e.ask
 
 abbrev pub sends_again : Behind → Who → Ask → Bool
 sends_again b (Position p) (ask.Call f) = b.call p f.serial
@@ -109,5 +116,5 @@ NoneRepeatsThePast b (e ∷ es) = (repeats_the_past b e ≡ false) × NoneRepeat
 abbrev pub AreAnsweredAlike : ℕ → Behind → List Event → Room → Room → Type 0
 AreAnsweredAlike since b [] old new = Unit {0}
 AreAnsweredAlike since b (e ∷ es) old new =
-    (asks_of_the_past since b e ≡ false → answer_to e new ≡ answer_to e old)
+    (asks_of_the_past since b old e ≡ false → answer_to e new ≡ answer_to e old)
     × AreAnsweredAlike since b es (room_after e old) (room_after e new)

@@ -10,11 +10,11 @@ use Rattle.room_store_check_rows.specs.declared.summaries.Summary.{Summary}
 use Rattle.room_store_file.specs.ExaminedFile.{ExplainsFile, HasCause, IsSummaryOf}
 use Rattle.room_store_file.specs.declared.examined_file.Wrong.{Wrong}
 use Rattle.room_store_file.specs.declared.examined_file.Wrong.TheVariants as wrong
-use Rattle.dispatch_room_cli.specs.declared.exit_status.Done.{Done}
-use Rattle.dispatch_room_cli.specs.declared.exit_status.Done.TheVariants.{Whole}
-use Rattle.dispatch_room_cli.specs.declared.exit_status.Failure.{Failure}
-use Rattle.dispatch_room_cli.specs.declared.exit_status.Failure.TheVariants.{File, Memory, Network}
-use Rattle.dispatch_room_cli.specs.declared.exit_status.Failure.TheVariants.{Storage, Version}
+use Rattle.dispatch_room_exit.specs.declared.exit_status.Done.{Done}
+use Rattle.dispatch_room_exit.specs.declared.exit_status.Done.TheVariants.{Whole}
+use Rattle.dispatch_room_exit.specs.declared.exit_status.Failure.{Failure}
+use Rattle.dispatch_room_exit.specs.declared.exit_status.Failure.TheVariants.{File, Memory, Network}
+use Rattle.dispatch_room_exit.specs.declared.exit_status.Failure.TheVariants.{Storage, Version}
 use Rattle.room_tables_schema.specs.FileConnections.{IsClean}
 use Rattle.dispatch_room_archive.specs.FindingTexts.{wrong_text}
 

@@ -29,11 +29,11 @@ use Rattle.room_store_writes.specs.Configurations.{config_of}
 use Rattle.room_store_writes.specs.Transactions.{StandsSettled}
 use Rattle.room_tables.specs.RoomsInTables.{Stands}
 use Rattle.room_tables_schema.specs.Schema.{no_schema}
-use Rattle.dispatch_room_cli.specs.declared.exit_status.Done.{Done}
-use Rattle.dispatch_room_cli.specs.declared.exit_status.Done.TheVariants.{Whole}
-use Rattle.dispatch_room_cli.specs.declared.exit_status.Failure.{Failure}
-use Rattle.dispatch_room_cli.specs.declared.exit_status.Failure.TheVariants.{Day, File, Memory}
-use Rattle.dispatch_room_cli.specs.declared.exit_status.Failure.TheVariants.{Network, Storage}
+use Rattle.dispatch_room_exit.specs.declared.exit_status.Done.{Done}
+use Rattle.dispatch_room_exit.specs.declared.exit_status.Done.TheVariants.{Whole}
+use Rattle.dispatch_room_exit.specs.declared.exit_status.Failure.{Failure}
+use Rattle.dispatch_room_exit.specs.declared.exit_status.Failure.TheVariants.{Day, File, Memory}
+use Rattle.dispatch_room_exit.specs.declared.exit_status.Failure.TheVariants.{Network, Storage}
 use Rattle.dispatch_room_archive.specs.Examination.{HasFault}
 use Rattle.dispatch_room_archive.specs.TimesReport.{IsSpanOf}
 use Rattle.dispatch_room_archive.specs.declared.renewal.Successor.{Successor}

@@ -20,9 +20,9 @@ use Rattle.room_model.specs.Queries.{incidents_opened}
 use Rattle.room_model.specs.Room.{Room}
 use Rattle.room_store.specs.StoredRoom.{IsRoom}
 use Rattle.room_store.specs.declared.store.Store.{Store}
-use Rattle.dispatch_room_cli.specs.declared.exit_status.Failure.{Failure}
-use Rattle.dispatch_room_cli.specs.declared.exit_status.Failure.TheVariants.{Day, Division, Memory}
-use Rattle.dispatch_room_cli.specs.declared.exit_status.Failure.TheVariants.{Storage}
+use Rattle.dispatch_room_exit.specs.declared.exit_status.Failure.{Failure}
+use Rattle.dispatch_room_exit.specs.declared.exit_status.Failure.TheVariants.{Day, Division, Memory}
+use Rattle.dispatch_room_exit.specs.declared.exit_status.Failure.TheVariants.{Storage}
 use Rattle.dispatch_room_csv.specs.DayReport.{report_of}
 use Rattle.dispatch_room_tasks.specs.OpenedRoom.{IsOpened}
 

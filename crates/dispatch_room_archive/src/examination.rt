@@ -15,8 +15,8 @@ ghost use Rattle.std.specs.Io.KnownBytes.{Appends};
 ghost use Rattle.jiff.specs.Words.{read_whole};
 ghost use Rattle.sqlite.specs.Held.{state};
 ghost use Rattle.room_store_check_tables.specs.HeldRooms.{WritesNothing};
-ghost use Rattle.dispatch_room_cli.specs.declared.exit_status.Done.TheVariants.{Whole};
-ghost use Rattle.dispatch_room_cli.specs.declared.exit_status.Failure.TheVariants.{File, Network};
+ghost use Rattle.dispatch_room_exit.specs.declared.exit_status.Done.TheVariants.{Whole};
+ghost use Rattle.dispatch_room_exit.specs.declared.exit_status.Failure.TheVariants.{File, Network};
 ghost use Rattle.dispatch_room_archive.specs.FindingTexts.{wrong_text};
 ghost use Rattle.dispatch_room_archive.specs.Examination.{
   HasChecked,
@@ -31,7 +31,7 @@ ghost use Rattle.dispatch_room_archive.specs.Examination.{
 };
 
 use crate::finding_texts::WrongText;
-use dispatch_room_cli::exit_status::{Done, Failure};
+use dispatch_room_exit::exit_status::{Done, Failure};
 use room_http_time::zones::Zone;
 use room_place::plans::Plan;
 use room_store_check_rows::summaries::Summary;

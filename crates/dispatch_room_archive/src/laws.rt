@@ -2,9 +2,10 @@
 ghost use Rattle.std.specs.Prelude.{◌≡◌, ℕ, ℤ, List, Err, false, filter, map, not, true};
 ghost use Rattle.room_place.specs.Plans.{division_of};
 ghost use Rattle.room_types.specs.Texts.{Callsign};
+ghost use Rattle.room_types.specs.declared.answers.Answer.TheVariants.{Reports as ReportsAnswer};
 ghost use Rattle.room_types.specs.declared.answers.Answer.TheVariants.{Times as TimesAnswer};
 ghost use Rattle.room_types.specs.declared.asks.Ask.{Ask};
-ghost use Rattle.room_types.specs.declared.asks.Ask.TheVariants.{Call, Report, Times};
+ghost use Rattle.room_types.specs.declared.asks.Ask.TheVariants.{Call, Report, Reports, Times};
 ghost use Rattle.room_types.specs.declared.asks.CallForm.{CallForm};
 ghost use Rattle.room_types.specs.declared.asks.Event.{Event};
 ghost use Rattle.room_types.specs.declared.asks.Press.{Press};
@@ -15,7 +16,7 @@ ghost use Rattle.room_model.specs.DayTimes.{times_line, times_of};
 ghost use Rattle.room_model.specs.Decisions.{show};
 ghost use Rattle.room_model.specs.FleetRows.{AreTerminals};
 ghost use Rattle.room_model.specs.Events.{AreAddressed, by_crew, by_desk, by_position};
-ghost use Rattle.room_model.specs.Queries.{incidents_opened};
+ghost use Rattle.room_model.specs.Queries.{incidents_opened, reports_of};
 ghost use Rattle.room_model.specs.Room.{IsInOrder, Room, apply};
 ghost use Rattle.room_model.specs.Run.{room_run};
 ghost use Rattle.room_model.specs.Step.{answer_to, decided, room_after};
@@ -48,7 +49,7 @@ pub fn a_successor_goes_on_alike()
     // Unless a desk asks of the past, or a call or a report that stayed behind is sent again.
     ensures answer { (since : ℕ) (b : Behind) (old new : Room) (e : Event) →
         IsWellFormed old → IsSuccessor since b old new →
-        asks_of_the_past since b e ≡ false → repeats_the_past b e ≡ false →
+        asks_of_the_past since b old e ≡ false → repeats_the_past b e ≡ false →
         answer_to e new ≡ answer_to e old }
     // Even where a desk asks of the past, the rooms go on alike.
     ensures afterwards { (since : ℕ) (b : Behind) (old new : Room) (e : Event) →
@@ -71,7 +72,8 @@ pub fn rooms_go_on_alike()
 {}
 
 /// What a desk asks of the past changes neither room. An incident that stayed behind is not found
-/// in the new room; the times are those of the incidents that did not stay behind.
+/// in the new room; the times are those of the incidents that did not stay behind, and a vehicle's
+/// reports those that did not.
 pub fn the_past_is_not_found()
     ensures incident { (since : ℕ) (b : Behind) (old new : Room) (d : ℕ) (a : Ask) (at : ℕ) →
         IsWellFormed old → IsSuccessor since b old new →
@@ -82,13 +84,18 @@ pub fn the_past_is_not_found()
         decided (by_desk d (Times from to) at) new
         ≡ show (TimesAnswer (times_of from to (map times_line
         (filter (λ i. not (b.incident i.division i.number)) (incidents_opened d from to old))))) }
+    ensures reports { (since : ℕ) (b : Behind) (old new : Room) (d : ℕ) (c : Callsign) (at : ℕ) →
+        IsSuccessor since b old new →
+        decided (by_desk d (Reports c) at) new
+        ≡ show (ReportsAnswer (filter (λ x. not (b.report x.callsign x.number))
+        (reports_of d c old))) }
     ensures old { (since : ℕ) (b : Behind) (old new : Room) (e : Event) →
         IsSuccessor since b old new →
-        asks_of_the_past since b e ≡ true →
+        asks_of_the_past since b old e ≡ true →
         room_after e old ≡ old }
     ensures new { (since : ℕ) (b : Behind) (old new : Room) (e : Event) →
         IsWellFormed old → IsSuccessor since b old new →
-        asks_of_the_past since b e ≡ true →
+        asks_of_the_past since b old e ≡ true →
         room_after e new ≡ new }
 {}
 

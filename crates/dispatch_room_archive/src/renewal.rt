@@ -26,7 +26,7 @@ ghost use Rattle.room_tables_schema.specs.FileConnections.{IsClean};
 use crate::examination::failure_of;
 use crate::successor::puts_since;
 use crate::times_report::span;
-use dispatch_room_cli::exit_status::{Done, Failure};
+use dispatch_room_exit::exit_status::{Done, Failure};
 use dispatch_room_tasks::opened_room::TaskResult;
 use room_http_time::zones::Zone;
 use room_place::plans::Plan;

@@ -11,8 +11,8 @@ ghost use Rattle.dispatch_room_archive.specs.TimesReport.{IsDayReport, IsSpanOf,
 ghost use Rattle.dispatch_room_tasks.specs.OpenedRoom.{IsUnopened};
 ghost use Rattle.room_tables_schema.specs.FileConnections.{IsClean};
 
-use dispatch_room_cli::exit_status::{Failure, refused};
 use dispatch_room_csv::day_report::day_report;
+use dispatch_room_exit::exit_status::{Failure, refused};
 use dispatch_room_tasks::opened_room::{TaskResult, open_room};
 use room_http_time::days::Day;
 use room_http_time::zones::Zone;

@@ -2,9 +2,9 @@
 use Rattle.std.specs.Global.{Global}
 use Rattle.std.specs.Prelude.{List, MatchResult, None, Option, Some, Vec, codes, decimal, false}
 use Rattle.std.specs.Prelude.{length, option_map, true, ⊤, ℕ, Bool, ◌++◌, ◌≡◌, ◌⊎◌}
-use Rattle.dispatch_room_cli.specs.declared.exit_status.Done.{Done}
-use Rattle.dispatch_room_cli.specs.declared.exit_status.Failure.{Failure}
-use Rattle.dispatch_room_cli.specs.declared.exit_status.Failure.TheVariants as failure
+use Rattle.dispatch_room_exit.specs.declared.exit_status.Done.{Done}
+use Rattle.dispatch_room_exit.specs.declared.exit_status.Failure.{Failure}
+use Rattle.dispatch_room_exit.specs.declared.exit_status.Failure.TheVariants as failure
 use Rattle.dispatch_room_csv.specs.FleetFile.{IsFleetText}
 use Rattle.dispatch_room_csv.specs.PlanFile.{IsPlanText}
 use Rattle.dispatch_room_csv.specs.declared.fleet_file.FleetLine.{FleetLine}
@@ -20,8 +20,7 @@ use Rattle.dispatch_room_changes.specs.ChangeTasks.{EnrolsKept, Lists}
 use Rattle.dispatch_room_changes.specs.declared.kept_changes.ChangedFile.{ChangedFile}
 use Rattle.dispatch_room_changes.specs.TerminalFiles.{AreGiven, GivesNoFleet, GivesNoPlan}
 use Rattle.dispatch_room_changes.specs.TerminalFiles.{GivesNone}
-use Rattle.dispatch_room_disk.specs.CommandSteps.{Gives, Prints, Shows, Silent, Then}
-use Rattle.dispatch_room_disk.specs.CommandSteps.{Tries}
+use Rattle.dispatch_room_disk.specs.CommandSteps.{Gives, Prints, Shows, Silent, Then, Tries}
 use Rattle.dispatch_room_disk.specs.RoomFiles.{fresh, there}
 use Rattle.dispatch_room_journal.specs.declared.list_ends.ListEnd.{ListEnd}
 use Rattle.dispatch_room_journal.specs.declared.list_ends.ListEnd.TheVariants.{Chain, Plain}

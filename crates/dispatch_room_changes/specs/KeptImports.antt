@@ -13,10 +13,10 @@ use Rattle.room_model.specs.declared.digests.Head.{Head}
 use Rattle.room_store.specs.StoredRoom.{IsKept, IsRoom}
 use Rattle.room_store.specs.declared.store.Store.{Store}
 use Rattle.dispatch_room_csv.specs.declared.fleet_file.FleetLine.{FleetLine}
-use Rattle.dispatch_room_cli.specs.declared.exit_status.Done.{Done}
-use Rattle.dispatch_room_cli.specs.declared.exit_status.Failure.{Failure}
-use Rattle.dispatch_room_cli.specs.declared.exit_status.Failure.TheVariants.{Journal, Memory}
-use Rattle.dispatch_room_cli.specs.declared.exit_status.Failure.TheVariants.{Storage}
+use Rattle.dispatch_room_exit.specs.declared.exit_status.Done.{Done}
+use Rattle.dispatch_room_exit.specs.declared.exit_status.Failure.{Failure}
+use Rattle.dispatch_room_exit.specs.declared.exit_status.Failure.TheVariants.{Journal, Memory}
+use Rattle.dispatch_room_exit.specs.declared.exit_status.Failure.TheVariants.{Storage}
 use Rattle.dispatch_room_journal.specs.JournalRecords.{room_text}
 use Rattle.dispatch_room_journal.specs.PlainTexts.{PutsKnown}
 use Rattle.dispatch_room_journal.specs.RowRuns.{PutsEntry, PutsRow}

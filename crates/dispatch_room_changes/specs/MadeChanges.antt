@@ -5,7 +5,7 @@ use Rattle.sqlite.specs.Held.{Held}
 use Rattle.sqlite_trees.specs.declared.store.Store.{Ghosts}
 use Rattle.room_model.specs.declared.digests.Head.{Head}
 use Rattle.room_store.specs.declared.store.Store.{Store}
-use Rattle.dispatch_room_cli.specs.declared.exit_status.Failure.{Failure}
+use Rattle.dispatch_room_exit.specs.declared.exit_status.Failure.{Failure}
 use Rattle.dispatch_room_tasks.specs.OpenedRoom.{IsUnopened, OpensRoom}
 use Rattle.dispatch_room_changes.specs.KeptImports.{EndsKept, IsUnkept, KeepsLines, ShowsHead}
 use Rattle.dispatch_room_lists.specs.RoomChanges.{LosesRoom, Remakes}

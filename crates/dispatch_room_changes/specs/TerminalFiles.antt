@@ -5,8 +5,8 @@ use Rattle.std.specs.Prelude.{ℕ, ◌≡◌, ◌⊎◌}
 use Rattle.std.specs.Str.{bytes_eq}
 use Rattle.room_types.specs.declared.fleet.Terminal.{Terminal}
 use Rattle.room_model.specs.FleetRows.{new_terminal}
-use Rattle.dispatch_room_cli.specs.declared.exit_status.Failure.{Failure}
-use Rattle.dispatch_room_cli.specs.declared.exit_status.Failure.TheVariants.{Input, Memory}
+use Rattle.dispatch_room_exit.specs.declared.exit_status.Failure.{Failure}
+use Rattle.dispatch_room_exit.specs.declared.exit_status.Failure.TheVariants.{Input, Memory}
 use Rattle.dispatch_room_csv.specs.CsvFaults.{fleet_failure, plan_failure}
 use Rattle.dispatch_room_csv.specs.FleetFile.{ExplainsFleet, IsFleetText}
 use Rattle.dispatch_room_csv.specs.PlanFile.{ExplainsPlan, IsPlanText}

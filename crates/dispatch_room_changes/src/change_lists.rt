@@ -12,7 +12,7 @@ use dispatch_room_journal::entry_texts::EntryText;
 use dispatch_room_journal::list_ends::{ListEnd, put_entry, put_row};
 use dispatch_room_journal::row_runs::ROW_ROOM;
 use dispatch_room_serving::journal_files::{Lasting, WrittenFile};
-use room_http::observers::Unkept;
+use room_http::observers::JournalFailed;
 use room_model::digests::Head;
 
 /// The list of a room, to which the text of a change is appended.
@@ -41,7 +41,7 @@ pub fn keep_lines<F: Lasting>(
     list: &mut ChangeList<F>,
     head: &Head,
     text: &[u8],
-) -> Result<(), Unkept>
+) -> Result<(), JournalFailed>
     requires sound { list.old.out.failed ≡ false }
     requires digest { IsDigest head.now.digits }
     ensures sound { OnOk result (list.new.out.failed ≡ false) }
@@ -57,7 +57,7 @@ pub fn keep_lines<F: Lasting>(
 }
 
 /// Keeps the digest of a room, and makes it last. Until it does, a mark says where it begins.
-pub fn keep_place<F: Lasting>(list: &mut ChangeList<F>, head: &Head) -> Result<(), Unkept>
+pub fn keep_place<F: Lasting>(list: &mut ChangeList<F>, head: &Head) -> Result<(), JournalFailed>
     requires sound { list.old.out.failed ≡ false }
     requires digest { IsDigest head.now.digits }
     ensures kept { OnOk result (KeepsHead F.contents F.lasting list.old list.new head.now) }
@@ -70,7 +70,7 @@ pub fn keep_place<F: Lasting>(list: &mut ChangeList<F>, head: &Head) -> Result<(
 }
 
 // Makes all that was kept last, and then takes the mark away. If that fails, the list has failed.
-fn make_last<F: Lasting>(list: &mut ChangeList<F>) -> Result<(), Unkept>
+fn make_last<F: Lasting>(list: &mut ChangeList<F>) -> Result<(), JournalFailed>
     ensures held { F.contents list.new.out.file ≡ F.contents list.old.out.file }
     ensures end { list.new.end ≡ list.old.end }
     ensures failed { list.new.out.failed ≡ (list.old.out.failed || is_err result) }
@@ -80,12 +80,12 @@ fn make_last<F: Lasting>(list: &mut ChangeList<F>) -> Result<(), Unkept>
     if list.out.make_last() && list.out.unmark() {
         Ok(())
     } else {
-        Err(Unkept)
+        Err(JournalFailed)
     }
 }
 
 // Marks beside a list where it ends, and keeps the digest of a room there.
-fn keep_head<F: Lasting>(list: &mut ChangeList<F>, head: &Head) -> Result<(), Unkept>
+fn keep_head<F: Lasting>(list: &mut ChangeList<F>, head: &Head) -> Result<(), JournalFailed>
     requires sound { list.old.out.failed ≡ false }
     requires digest { IsDigest head.now.digits }
     ensures failed { list.new.out.failed ≡ is_err result }
@@ -94,16 +94,16 @@ fn keep_head<F: Lasting>(list: &mut ChangeList<F>, head: &Head) -> Result<(), Un
 {
     let entry = EntryText::room(head);
     if !list.out.mark() {
-        return Err(Unkept);
+        return Err(JournalFailed);
     }
     match put_entry(&mut list.out, &mut list.end, entry.bytes()) {
         Ok(()) => Ok(()),
-        Err(_) => Err(Unkept),
+        Err(_) => Err(JournalFailed),
     }
 }
 
 // Keeps each line of a text as a row.
-fn keep_rows<F: Lasting>(list: &mut ChangeList<F>, text: &[u8]) -> Result<(), Unkept>
+fn keep_rows<F: Lasting>(list: &mut ChangeList<F>, text: &[u8]) -> Result<(), JournalFailed>
     requires sound { list.old.out.failed ≡ false }
     ensures sound { OnOk result (list.new.out.failed ≡ false) }
     ensures kept { OnOk result ((lines : List (List ℕ)) × AreLinesOf text.now lines
@@ -121,7 +121,7 @@ fn keep_rows<F: Lasting>(list: &mut ChangeList<F>, text: &[u8]) -> Result<(), Un
 }
 
 // Keeps a line as a row, if the list is a chain and the line not too long.
-fn keep_row<F: Lasting>(list: &mut ChangeList<F>, line: &[u8]) -> Result<(), Unkept>
+fn keep_row<F: Lasting>(list: &mut ChangeList<F>, line: &[u8]) -> Result<(), JournalFailed>
     requires sound { list.old.out.failed ≡ false }
     requires line { Lacks 10 line.now }
     ensures sound { OnOk result (list.new.out.failed ≡ false) }
@@ -131,14 +131,14 @@ fn keep_row<F: Lasting>(list: &mut ChangeList<F>, line: &[u8]) -> Result<(), Unk
 {
     let link = match list.end {
         ListEnd::Chain(link) => link,
-        ListEnd::Plain => return Err(Unkept),
+        ListEnd::Plain => return Err(JournalFailed),
     };
     if line.len() > ROW_ROOM {
-        return Err(Unkept);
+        return Err(JournalFailed);
     }
     match put_row(&mut list.out, &mut list.end, &link, line) {
         Ok(()) => Ok(()),
-        Err(_) => Err(Unkept),
+        Err(_) => Err(JournalFailed),
     }
 }
 

@@ -6,12 +6,12 @@ ghost use Rattle.dispatch_room_changes.specs.ChangeSteps.{IsImport, IsImportOf};
 ghost use Rattle.dispatch_room_disk.specs.CommandSteps.{at};
 ghost use Rattle.dispatch_room_disk.specs.SystemFiles.{system};
 
-use dispatch_room_cli::exit_status::{Done, Failure};
-use dispatch_room_cli::failure_causes::Explainer;
 use dispatch_room_csv::fleet_file::{FleetLine, read_fleet};
 use dispatch_room_csv::fleet_file_faults::explain_fleet;
 use dispatch_room_csv::sheets::Sheet;
 use dispatch_room_disk::room_files::RoomFile;
+use dispatch_room_exit::exit_status::{Done, Failure};
+use dispatch_room_exit::failure_causes::Explainer;
 use dispatch_room_tasks::enrolment::enrol_in;
 use dispatch_room_tcp::hosts::Machine;
 use std::io::Write;

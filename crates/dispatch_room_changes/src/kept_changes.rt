@@ -8,9 +8,9 @@ ghost use Rattle.dispatch_room_disk.specs.SystemFiles.{system};
 use crate::change_lists::ChangeList;
 use crate::kept_import::opened_list;
 use crate::made_changes::make_kept_in;
-use dispatch_room_cli::exit_status::Failure;
-use dispatch_room_cli::failure_causes::Explainer;
 use dispatch_room_disk::room_files::RoomFile;
+use dispatch_room_exit::exit_status::Failure;
+use dispatch_room_exit::failure_causes::Explainer;
 use dispatch_room_lists::room_changes::{RoomChange, make};
 use dispatch_room_tcp::hosts::Machine;
 

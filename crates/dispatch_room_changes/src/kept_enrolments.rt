@@ -1,6 +1,7 @@
 //! A fleet that is kept in the list of a room, and enrolled.
 ghost use Rattle.std.specs.Prelude.{◌≡◌, ◌⊎◌, false, IfErr, IfOk, OnErr};
-ghost use Rattle.dispatch_room_cli.specs.declared.exit_status.Failure.TheVariants.{Memory, Storage};
+ghost use Rattle.dispatch_room_exit.specs.declared.exit_status.Failure.TheVariants.{Memory};
+ghost use Rattle.dispatch_room_exit.specs.declared.exit_status.Failure.TheVariants.{Storage};
 ghost use Rattle.dispatch_room_journal.specs.Entries.{IsDigest};
 ghost use Rattle.room_store.specs.StoredRoom.{IsReady};
 ghost use Rattle.dispatch_room_tasks.specs.OpenedRoom.{IsUnopened};
@@ -10,10 +11,10 @@ ghost use Rattle.dispatch_room_changes.specs.KeptImports.{PlacesRoom, ShowsHead}
 ghost use Rattle.dispatch_room_lists.specs.StoodRooms.{Stays};
 
 use crate::change_lists::{ChangeList, keep_lines, keep_place};
-use dispatch_room_cli::exit_status::{Done, Failure, refused};
-use dispatch_room_cli::failure_causes::Explainer;
 use dispatch_room_csv::fleet_file::FleetLine;
 use dispatch_room_csv::sheets::Sheet;
+use dispatch_room_exit::exit_status::{Done, Failure, refused};
+use dispatch_room_exit::failure_causes::Explainer;
 use dispatch_room_journal::journal_digests::digest_of;
 use dispatch_room_serving::journal_files::Lasting;
 use dispatch_room_tasks::enrolment::enrol;

@@ -8,8 +8,8 @@ ghost use Rattle.dispatch_room_lists.specs.StoodRooms.{Stays};
 
 use crate::change_lists::{ChangeList, keep_lines};
 use crate::kept_enrolments::{end_kept, head_of};
-use dispatch_room_cli::exit_status::Failure;
-use dispatch_room_cli::failure_causes::Explainer;
+use dispatch_room_exit::exit_status::Failure;
+use dispatch_room_exit::failure_causes::Explainer;
 use dispatch_room_lists::room_changes::{Remade, RoomChange, remake};
 use dispatch_room_serving::journal_files::Lasting;
 use dispatch_room_tasks::opened_room::{TaskResult, open_room};

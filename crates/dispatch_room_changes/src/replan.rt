@@ -7,11 +7,11 @@ ghost use Rattle.dispatch_room_disk.specs.SystemFiles.{system};
 
 use crate::init::plan_in;
 use crate::kept_changes::{ChangedFile, make_in_file};
-use dispatch_room_cli::exit_status::{Done, Failure};
-use dispatch_room_cli::failure_causes::Explainer;
 use dispatch_room_csv::plan_file::PlanFile;
 use dispatch_room_csv::sheets::Sheet;
 use dispatch_room_disk::outputs::print;
+use dispatch_room_exit::exit_status::{Done, Failure};
+use dispatch_room_exit::failure_causes::Explainer;
 use dispatch_room_lists::room_changes::RoomChange;
 use dispatch_room_tcp::hosts::Machine;
 use std::io::Write;

@@ -6,11 +6,11 @@ ghost use Rattle.dispatch_room_changes.specs.TerminalFiles.{GiveNone, GivesNoPla
 ghost use Rattle.dispatch_room_changes.specs.TerminalFiles.{begins_as_fleet, crew_of, is_bad};
 
 use crate::init::plan_in;
-use dispatch_room_cli::exit_status::Failure;
 use dispatch_room_csv::fleet_file::{FleetFileFault, FleetLine, read_fleet};
 use dispatch_room_csv::fleet_file_faults::{explain_bad, explain_fleet};
 use dispatch_room_csv::plan_file::PlanFile;
 use dispatch_room_csv::sheets::Sheet;
+use dispatch_room_exit::exit_status::Failure;
 use room_types::asks::Who;
 use room_types::fleet::Terminal;
 use std::alloc::{AllocError, Global};

@@ -13,12 +13,12 @@ ghost use Rattle.dispatch_room_disk.specs.SystemFiles.{system};
 
 use crate::kept_changes::{ChangedFile, make_in_file};
 use crate::terminal_files::terminals_in;
-use dispatch_room_cli::exit_status::{Done, Failure};
-use dispatch_room_cli::failure_causes::Explainer;
 use dispatch_room_cli::tasks::Terminals;
 use dispatch_room_csv::sheets::Sheet;
 use dispatch_room_disk::outputs::print;
 use dispatch_room_disk::room_files::RoomFile;
+use dispatch_room_exit::exit_status::{Done, Failure};
+use dispatch_room_exit::failure_causes::Explainer;
 use dispatch_room_lists::change_texts::{terminals_text, token_text};
 use dispatch_room_lists::room_changes::RoomChange;
 use dispatch_room_tasks::listed_terminals::list_in;

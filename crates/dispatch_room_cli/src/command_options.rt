@@ -197,8 +197,8 @@ const SERVE: CommandForm = CommandForm {
         Word {
             name: "history",
             kind: WordKind::Flag,
-            help: "Serve also GET /incidents/N, what came of an incident, and GET /last, the last \
-                 numbers of a terminal",
+            help: "Serve also GET /incidents/N, what came of an incident, GET /vehicles/C/reports, \
+                 what became of a vehicle's reports, and GET /last, the last numbers of a terminal",
         },
         Word {
             name: "log",

@@ -1,5 +1,4 @@
-//! The command line of dispatch_room: what its words ask for, and the help that it gives; how much
-//! a command did, or why it fails, what it says of that, and its exit status.
+//! The command line of dispatch_room: what its words ask for, and the help that it gives.
 #![tactic(auto)]
 
 mod addresses;
@@ -7,7 +6,5 @@ pub mod argument_parser;
 mod builder;
 mod command_options;
 pub mod database_names;
-pub mod exit_status;
-pub mod failure_causes;
 pub mod tasks;
 pub mod who;

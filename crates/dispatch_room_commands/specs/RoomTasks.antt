@@ -5,7 +5,7 @@ use Rattle.std.specs.Prelude.{◌⊎◌}
 use Rattle.sqlite.specs.Held.{state}
 use Rattle.room_store_check_tables.specs.HeldRooms.{WritesNothing}
 use Rattle.dispatch_room_disk.specs.RoomFiles.{Doing}
-use Rattle.dispatch_room_cli.specs.declared.exit_status.Done.{Done}
+use Rattle.dispatch_room_exit.specs.declared.exit_status.Done.{Done}
 use Rattle.dispatch_room_tasks.specs.OpenedRoom.{IsUnopened}
 use Rattle.dispatch_room_cli.specs.declared.tasks.Replay.{Replay as How}
 use Rattle.dispatch_room_journal.specs.Chains.{sha256_digits}

@@ -17,12 +17,12 @@ use Rattle.dispatch_room_changes.specs.ChangeSteps.{IsImport, IsInit, IsKeptImpo
 use Rattle.dispatch_room_changes.specs.ChangeSteps.{IsSetting, IsTerminals}
 use Rattle.dispatch_room_changes.specs.declared.kept_changes.ChangedFile.{ChangedFile}
 use Rattle.dispatch_room_cli.specs.AskedTasks.{IsRead}
-use Rattle.dispatch_room_cli.specs.ExitStatus.{status_after}
+use Rattle.dispatch_room_exit.specs.ExitStatus.{status_after}
 use Rattle.dispatch_room_cli.specs.Tasks.{IsServedHere}
-use Rattle.dispatch_room_cli.specs.declared.exit_status.Done.{Done}
-use Rattle.dispatch_room_cli.specs.declared.exit_status.Done.TheVariants.{InPart}
-use Rattle.dispatch_room_cli.specs.declared.exit_status.Failure.{Failure}
-use Rattle.dispatch_room_cli.specs.declared.exit_status.Failure.TheVariants as failure
+use Rattle.dispatch_room_exit.specs.declared.exit_status.Done.{Done}
+use Rattle.dispatch_room_exit.specs.declared.exit_status.Done.TheVariants.{InPart}
+use Rattle.dispatch_room_exit.specs.declared.exit_status.Failure.{Failure}
+use Rattle.dispatch_room_exit.specs.declared.exit_status.Failure.TheVariants as failure
 use Rattle.dispatch_room_cli.specs.declared.tasks.Color.{Color}
 use Rattle.dispatch_room_cli.specs.declared.tasks.Color.TheVariants.{Always, Auto, Never}
 use Rattle.dispatch_room_cli.specs.declared.tasks.Look.{Look}
@@ -59,7 +59,7 @@ use Rattle.dispatch_room_tcp.specs.ServedFiles.{IsServe}
 abbrev pub said_by : Option (List ℕ) → Option (List ℕ)
 said_by bytes = option_map (list_says sha256_digits Full) bytes
 
--- A list was looked through, or has a flaw, or memory fails. Whether a read failed is known.
+-- A list was looked through, or has a defect, or memory fails. Whether a read failed is known.
 abbrev pub Verifies : Option (List ℕ) → Bool → Step Output (Option Tally)
 Verifies list read_failed = Silent (λ looked. MatchResult looked
     (λ found. (text : List ℕ) → list ≡ Some text → IsVerified text found)

@@ -5,11 +5,11 @@ use Rattle.dispatch_room_journal.specs.ListTallies.{IsFlawed}
 use Rattle.dispatch_room_journal.specs.declared.entry_reader.EntryFault.{EntryFault}
 use Rattle.dispatch_room_journal.specs.declared.entry_reader.EntryFault.TheVariants.{Cut, Foreign}
 use Rattle.dispatch_room_journal.specs.declared.entry_reader.EntryFault.TheVariants.{Read}
-use Rattle.dispatch_room_journal.specs.declared.list_tallies.Flaw.{Flaw}
+use Rattle.dispatch_room_journal.specs.declared.list_tallies.Defect.{Defect}
 use Rattle.dispatch_room_journal.specs.declared.list_tallies.Span.{Span}
 use Rattle.dispatch_room_journal.specs.declared.list_tallies.Tally.{Tally}
-use Rattle.dispatch_room_cli.specs.declared.exit_status.Failure.{Failure}
-use Rattle.dispatch_room_cli.specs.declared.exit_status.Failure.TheVariants.{Network, Record}
+use Rattle.dispatch_room_exit.specs.declared.exit_status.Failure.{Failure}
+use Rattle.dispatch_room_exit.specs.declared.exit_status.Failure.TheVariants.{Network, Record}
 
 -- how many messages the list has
 abbrev pub messages_text : ℕ → List ℕ
@@ -35,14 +35,14 @@ tally_text tally has_ended =
 abbrev pub none_text : List ℕ
 none_text = codes "nothing was begun\n"
 
--- how the program fails by a flaw of a list: as the record at which it is no list, or as a read
+-- how the program fails by a defect of a list: as the record at which it is no list, or as a read
 -- that failed
 abbrev pub fails_by : EntryFault → ℕ → Failure
 fails_by Cut number = Record number
 fails_by Foreign number = Record number
 fails_by Read number = Network
 
--- a list has a flaw, by which the program fails
+-- a list has a defect, by which the program fails
 abbrev pub FlawsList : Option (List ℕ) → Bool → Failure → Type 0
-FlawsList list read_failed fault = (flaw : Flaw) × (fault ≡ fails_by flaw.fault flaw.number)
-    × ((text : List ℕ) → list ≡ Some text → IsFlawed read_failed text flaw)
+FlawsList list read_failed fault = (defect : Defect) × (fault ≡ fails_by defect.fault defect.number)
+    × ((text : List ℕ) → list ≡ Some text → IsFlawed read_failed text defect)

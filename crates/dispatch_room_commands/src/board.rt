@@ -7,14 +7,14 @@ ghost use Rattle.dispatch_room_disk.specs.CommandSteps.{Quietly, at};
 ghost use Rattle.room_types.specs.Texts.{is_token};
 ghost use Rattle.dispatch_room_board.specs.Requests.{requests};
 ghost use Rattle.dispatch_room_board.specs.declared.exchange.TheConstants.{MOST_HEARD};
-ghost use Rattle.dispatch_room_cli.specs.declared.exit_status.Failure.TheVariants.{Memory};
+ghost use Rattle.dispatch_room_exit.specs.declared.exit_status.Failure.TheVariants.{Memory};
 ghost use Rattle.dispatch_room_tcp.specs.HeardRooms.{IsHeard};
 
 use dispatch_room_board::boards::{Reached, board_of};
 use dispatch_room_board::exchange::{hear, send};
 use dispatch_room_board::requests::Asker;
-use dispatch_room_cli::exit_status::{Done, Failure};
 use dispatch_room_cli::tasks::{Color, Look};
+use dispatch_room_exit::exit_status::{Done, Failure};
 use dispatch_room_tcp::hosts::Machine;
 use room_http_messages::sinks::Sink;
 use room_http_messages::sources::Source;

@@ -4,8 +4,8 @@ ghost use Rattle.dispatch_room_disk.specs.CommandSteps.{at};
 ghost use Rattle.dispatch_room_disk.specs.SystemFiles.{system};
 
 use dispatch_room_archive::examination::check_in;
-use dispatch_room_cli::exit_status::{Done, Failure};
 use dispatch_room_disk::room_files::RoomFile;
+use dispatch_room_exit::exit_status::{Done, Failure};
 use dispatch_room_tcp::hosts::Machine;
 use std::io::Write;
 

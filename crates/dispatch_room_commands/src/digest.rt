@@ -5,8 +5,8 @@ ghost use Rattle.dispatch_room_commands.specs.RoomTasks.{Digests};
 ghost use Rattle.dispatch_room_disk.specs.CommandSteps.{at};
 ghost use Rattle.dispatch_room_disk.specs.SystemFiles.{system};
 
-use dispatch_room_cli::exit_status::{Done, Failure};
 use dispatch_room_disk::room_files::RoomFile;
+use dispatch_room_exit::exit_status::{Done, Failure};
 use dispatch_room_lists::digest_lines::print_digest;
 use dispatch_room_tasks::opened_room::{TaskResult, open_room};
 use dispatch_room_tcp::hosts::Machine;

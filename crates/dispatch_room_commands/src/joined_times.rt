@@ -5,9 +5,9 @@ ghost use Rattle.dispatch_room_disk.specs.SystemFiles.{system};
 
 use dispatch_room_archive::division_days::DivisionDay;
 use dispatch_room_archive::joined_reports::{day_in, joined_report_in};
-use dispatch_room_cli::exit_status::{Done, Failure};
 use dispatch_room_disk::outputs::print;
 use dispatch_room_disk::room_files::RoomFile;
+use dispatch_room_exit::exit_status::{Done, Failure};
 use dispatch_room_tcp::hosts::Machine;
 use room_place::plans::DivisionNumber;
 use std::io::Write;

@@ -3,9 +3,9 @@ ghost use Rattle.dispatch_room_commands.specs.TaskSteps.{IsMigrate};
 ghost use Rattle.dispatch_room_disk.specs.CommandSteps.{at};
 ghost use Rattle.dispatch_room_disk.specs.SystemFiles.{system};
 
-use dispatch_room_cli::exit_status::{Done, Failure};
 use dispatch_room_disk::outputs::print;
 use dispatch_room_disk::room_files::RoomFile;
+use dispatch_room_exit::exit_status::{Done, Failure};
 use dispatch_room_tasks::migration::migrate_in;
 use dispatch_room_tcp::hosts::Machine;
 use std::io::Write;

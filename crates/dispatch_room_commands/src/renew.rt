@@ -7,8 +7,8 @@ ghost use Rattle.dispatch_room_tcp.specs.Hosts.{Works};
 ghost use Rattle.dispatch_room_disk.specs.SystemFiles.{system};
 
 use dispatch_room_archive::renewal::{Successor, begin_in, left_in};
-use dispatch_room_cli::exit_status::{Done, Failure};
 use dispatch_room_disk::room_files::RoomFile;
+use dispatch_room_exit::exit_status::{Done, Failure};
 use dispatch_room_tcp::hosts::Machine;
 use std::io::Write;
 

@@ -3,10 +3,10 @@ ghost use Rattle.dispatch_room_commands.specs.TaskSteps.{IsReplay};
 ghost use Rattle.dispatch_room_disk.specs.CommandSteps.{at};
 ghost use Rattle.dispatch_room_disk.specs.SystemFiles.{system};
 
-use dispatch_room_cli::exit_status::{Done, Failure};
-use dispatch_room_cli::failure_causes::Explainer;
 use dispatch_room_cli::tasks::Replay;
 use dispatch_room_disk::room_files::RoomFile;
+use dispatch_room_exit::exit_status::{Done, Failure};
+use dispatch_room_exit::failure_causes::Explainer;
 use dispatch_room_lists::replayed_legs::Course;
 use dispatch_room_lists::replayed_lists::replay_from;
 use dispatch_room_tcp::hosts::Machine;

@@ -4,10 +4,10 @@ ghost use Rattle.dispatch_room_disk.specs.CommandSteps.{Quietly, at};
 ghost use Rattle.dispatch_room_disk.specs.SystemFiles.{system};
 
 use crate::check::check;
-use dispatch_room_cli::exit_status::{Done, Failure};
-use dispatch_room_cli::failure_causes::Explainer;
 use dispatch_room_disk::aside_names::{Found, print_found};
 use dispatch_room_disk::restored_files::put_in_place;
+use dispatch_room_exit::exit_status::{Done, Failure};
+use dispatch_room_exit::failure_causes::Explainer;
 use dispatch_room_tcp::hosts::Machine;
 use std::io::Write;
 

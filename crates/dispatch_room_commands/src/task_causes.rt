@@ -1,8 +1,8 @@
 //! Explains failures whose cause follows from what was asked for.
 
-use dispatch_room_cli::exit_status::{Done, Failure};
-use dispatch_room_cli::failure_causes::Explainer;
 use dispatch_room_cli::tasks::{Task, Terminals};
+use dispatch_room_exit::exit_status::{Done, Failure};
+use dispatch_room_exit::failure_causes::Explainer;
 use room_types::asks::Who;
 
 /// Explains why a task failed, unless that was explained where it failed.

@@ -4,9 +4,9 @@ ghost use Rattle.dispatch_room_disk.specs.CommandSteps.{at};
 ghost use Rattle.dispatch_room_disk.specs.SystemFiles.{system};
 
 use dispatch_room_archive::times_report::report_in;
-use dispatch_room_cli::exit_status::{Done, Failure};
 use dispatch_room_disk::outputs::print;
 use dispatch_room_disk::room_files::RoomFile;
+use dispatch_room_exit::exit_status::{Done, Failure};
 use dispatch_room_tcp::hosts::Machine;
 use room_place::plans::DivisionNumber;
 use std::io::Write;

@@ -1,18 +1,18 @@
 //! `verify`: how much a list holds, or the first record at which it is no list.
 ghost use Rattle.std.specs.Prelude.{◌≡◌, ◌||◌, ◌==◌, Some, false, IfErr, OnOk};
 ghost use Rattle.std.specs.Io.KnownBytes.{Appends};
-ghost use Rattle.dispatch_room_cli.specs.declared.exit_status.Failure.TheVariants.{Network};
+ghost use Rattle.dispatch_room_exit.specs.declared.exit_status.Failure.TheVariants.{Network};
 ghost use Rattle.dispatch_room_disk.specs.CommandSteps.{Prints, at};
 ghost use Rattle.dispatch_room_commands.specs.TaskSteps.{IsVerify, IsVerifyOf, PrintsNone};
 ghost use Rattle.dispatch_room_commands.specs.VerifiedLists.{fails_by, span_text, tally_text};
 ghost use Rattle.dispatch_room_journal.specs.ReadSteps.{ends_well, left_in, most_rows};
 
-use dispatch_room_cli::exit_status::{Done, Failure};
 use dispatch_room_disk::outputs::print;
+use dispatch_room_exit::exit_status::{Done, Failure};
 use dispatch_room_journal::entry_reader::EntryFault;
 use dispatch_room_journal::journal_inbox::JournalInbox;
 use dispatch_room_journal::list_source::ListSource;
-use dispatch_room_journal::list_tallies::{Flaw, Span, Tally};
+use dispatch_room_journal::list_tallies::{Defect, Span, Tally};
 use dispatch_room_journal::verification::verify;
 use dispatch_room_tcp::hosts::Machine;
 use room_http_messages::sources::Source;
@@ -44,10 +44,10 @@ fn verify_in<R: Source, O: Write>(
     requires sound { R.has_failed list.old.reader ≡ false }
     requires none { list.old.passed ≡ 0 }
     ensures { IsVerifyOf
-        (left_in list.old.reel.mode list.old.reel.vouched list.old.reel.inbox
+        (left_in list.old.cursor.mode list.old.cursor.vouched list.old.cursor.inbox
         (R.left list.old.reader))
         (R.has_failed list.new.reader || list.new.passed == most_rows)
-        (ends_well list.new.reel.mode) (O.contents out.old) (O.contents out.new) result }
+        (ends_well list.new.cursor.mode) (O.contents out.old) (O.contents out.new) result }
 {
     let Ok(mut inbox) = JournalInbox::new(alloc) else {
         return Err(Failure::Memory);
@@ -55,16 +55,16 @@ fn verify_in<R: Source, O: Write>(
     match verify(&mut inbox, list) {
         Ok(Some(tally)) => print_tally(&tally, list.ended_well(), out),
         Ok(None) => print_none(out),
-        Err(flaw) => Err(failure_of(&flaw)),
+        Err(defect) => Err(failure_of(&defect)),
     }
 }
 
 // Why a text is no list, as the program reports it.
-fn failure_of(flaw: &Flaw) -> Failure
-    ensures { result ≡ fails_by flaw.now.fault flaw.now.number }
+fn failure_of(defect: &Defect) -> Failure
+    ensures { result ≡ fails_by defect.now.fault defect.now.number }
 {
-    match flaw.fault {
-        EntryFault::Cut | EntryFault::Foreign => Failure::Record(flaw.number),
+    match defect.fault {
+        EntryFault::Cut | EntryFault::Foreign => Failure::Record(defect.number),
         EntryFault::Read => Failure::Network,
     }
 }

@@ -1,6 +1,7 @@
 -- What a fault of a file is to the program.
-use Rattle.dispatch_room_cli.specs.declared.exit_status.Failure.{Failure}
-use Rattle.dispatch_room_cli.specs.declared.exit_status.Failure.TheVariants.{Input, Memory, PlanRow}
+use Rattle.dispatch_room_exit.specs.declared.exit_status.Failure.{Failure}
+use Rattle.dispatch_room_exit.specs.declared.exit_status.Failure.TheVariants.{Input, Memory}
+use Rattle.dispatch_room_exit.specs.declared.exit_status.Failure.TheVariants.{PlanRow}
 use Rattle.dispatch_room_csv.specs.declared.fleet_file.FleetFileFault.{FleetFileFault}
 use Rattle.dispatch_room_csv.specs.declared.fleet_file.FleetFileFault.TheVariants as fleet
 use Rattle.dispatch_room_csv.specs.declared.plan_file.PlanFileFault.{PlanFileFault}

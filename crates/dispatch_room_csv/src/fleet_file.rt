@@ -7,7 +7,7 @@ ghost use Rattle.dispatch_room_csv.specs.FleetFile.{fleet_row_of, kind_of};
 use crate::csv_records::{RecordsFault, read_rows};
 use crate::row_fields::{number, text_at, whole};
 use csv::StringRecord;
-use dispatch_room_cli::exit_status::Failure;
+use dispatch_room_exit::exit_status::Failure;
 use room_place::places::Place;
 use room_types::callsign::Callsign;
 use room_types::codes::Kind;

@@ -8,7 +8,7 @@ ghost use Rattle.dispatch_room_csv.specs.PlanFile.{terminal_in};
 use crate::csv_records::{RecordsFault, read_rows};
 use crate::plan_lines::{PlanLine, plan_lines};
 use crate::plan_rules::{first_refused, has_zone_and_areas};
-use dispatch_room_cli::exit_status::Failure;
+use dispatch_room_exit::exit_status::Failure;
 use room_place::plans::{Area, Plan, PlanFault};
 use room_types::fleet::Terminal;
 use room_types::text::Text;

@@ -4,7 +4,7 @@ ghost use Rattle.std.specs.Prelude.{◌≡◌};
 
 use crate::csv_records::has_names;
 use csv::{ReaderBuilder, StringRecord};
-use dispatch_room_cli::failure_causes::Explainer;
+use dispatch_room_exit::failure_causes::Explainer;
 use std::alloc::Global;
 use std::fmt::{self, Display};
 use std::str;

@@ -1,7 +1,7 @@
 -- What a call gives, said by two of its clauses, and what is handed on where it fails.
 use Rattle.std.proofs.Common.{Err, IfErr, IfOk, MatchResult, Ok, Result, false, refl, ◌≡◌}
 use Rattle.std.specs.Prelude.{OnErr, OnOk, is_err}
-use Rattle.dispatch_room_cli.specs.declared.exit_status.Failure.{Failure}
+use Rattle.dispatch_room_exit.specs.declared.exit_status.Failure.{Failure}
 use Rattle.dispatch_room_disk.specs.CommandSteps.{Step, Then}
 use Rattle.std.specs.Result.{IsErrAnd}
 

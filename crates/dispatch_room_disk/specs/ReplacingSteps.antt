@@ -1,8 +1,8 @@
 -- The steps by which a copy of a room is put in the place of a file.
 use Rattle.std.specs.Prelude.{ℕ, zero, suc, List, [], ◌∷◌, ◌++◌, ◌≡◌, Bool, true, false, map}
 use Rattle.std.specs.Prelude.{Result, Ok, Err, codes}
-use Rattle.dispatch_room_cli.specs.declared.exit_status.Failure.{Failure}
-use Rattle.dispatch_room_cli.specs.declared.exit_status.Failure.TheVariants.{File}
+use Rattle.dispatch_room_exit.specs.declared.exit_status.Failure.{Failure}
+use Rattle.dispatch_room_exit.specs.declared.exit_status.Failure.TheVariants.{File}
 use Rattle.dispatch_room_disk.specs.DiskFaults.{IsFileFault}
 use Rattle.dispatch_room_disk.specs.declared.aside_names.Found.{Found}
 use Rattle.dispatch_room_disk.specs.declared.aside_names.Found.TheVariants.{Copy, Nothing, Other}

@@ -17,8 +17,8 @@ use Rattle.sqlite_wal.specs.Reads.{AreClean}
 use Rattle.dispatch_room_disk.specs.DiskFaults.{IsFileFault, fault_of}
 use Rattle.dispatch_room_disk.specs.declared.room_files.RoomFile.{RoomFile}
 use Rattle.dispatch_room_disk.specs.declared.room_files.RoomFile.TheVariants.{Kept, New, Old}
-use Rattle.dispatch_room_cli.specs.declared.exit_status.Failure.{Failure}
-use Rattle.dispatch_room_cli.specs.declared.exit_status.Failure.TheVariants as failure
+use Rattle.dispatch_room_exit.specs.declared.exit_status.Failure.{Failure}
+use Rattle.dispatch_room_exit.specs.declared.exit_status.Failure.TheVariants as failure
 
 -- What is said of work, over any storage: of a database before it, of what the output held before
 -- and after, and of what came of it and the database as it is then, or of why it can't be done.

@@ -4,7 +4,7 @@ ghost use Rattle.std.specs.Io.KnownBytes.{Appends};
 ghost use Rattle.dispatch_room_disk.specs.AsideNames.{aside_name, found_text};
 ghost use Rattle.dispatch_room_disk.specs.CommandSteps.{Prints};
 
-use dispatch_room_cli::exit_status::{Done, Failure};
+use dispatch_room_exit::exit_status::{Done, Failure};
 use std::alloc::{AllocError, Global};
 use std::io::{self, Write};
 

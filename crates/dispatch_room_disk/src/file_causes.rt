@@ -2,8 +2,8 @@
 
 use crate::holders::holder;
 use crate::room_files::RoomFile;
-use dispatch_room_cli::exit_status::Failure;
-use dispatch_room_cli::failure_causes::Explainer;
+use dispatch_room_exit::exit_status::Failure;
+use dispatch_room_exit::failure_causes::Explainer;
 use sqlite_std_file::OpenError;
 use std::io::{self, ErrorKind};
 

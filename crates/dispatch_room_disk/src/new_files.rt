@@ -1,15 +1,15 @@
 //! The file of a new room: private to its owner, and with small pages.
 ghost use Rattle.std.specs.Prelude.{◌≡◌, ◌≢◌, true, IfErr, IsErr, IsOk, IsTrue, OnOk};
 ghost use Rattle.std.specs.IoError.{error_kind};
-ghost use Rattle.dispatch_room_cli.specs.declared.exit_status.Failure.TheVariants.{Memory};
+ghost use Rattle.dispatch_room_exit.specs.declared.exit_status.Failure.TheVariants.{Memory};
 ghost use Rattle.sqlite_pages.specs.declared.error.Error.TheVariants.{Corrupt};
 ghost use Rattle.sqlite_wal.specs.Reads.{AreClean};
 ghost use Rattle.dispatch_room_disk.specs.DiskFaults.{IsFileFault, begun_by};
 ghost use Rattle.dispatch_room_disk.specs.NewFiles.{IsBegun, IsSpared};
 
 use crate::opened_files::open_files;
-use dispatch_room_cli::exit_status::Failure;
-use dispatch_room_cli::failure_causes::Explainer;
+use dispatch_room_exit::exit_status::Failure;
+use dispatch_room_exit::failure_causes::Explainer;
 use sqlite::{Files, Options, Unknown};
 use sqlite_disk::Disk;
 use sqlite_pager::{PageSize, Pager};

@@ -4,8 +4,8 @@ ghost use Rattle.sqlite_std_file.specs.File.{file_is_usable};
 ghost use Rattle.dispatch_room_disk.specs.DiskFaults.{IsFileFault, IsUnopenedBy};
 
 use crate::file_causes::explain_unopened;
-use dispatch_room_cli::exit_status::Failure;
-use dispatch_room_cli::failure_causes::Explainer;
+use dispatch_room_exit::exit_status::Failure;
+use dispatch_room_exit::failure_causes::Explainer;
 use sqlite::{FileFrom, Files, Options, Start};
 use sqlite_std_file::OpenError;
 use std::hash::{BuildHasher, RandomState};

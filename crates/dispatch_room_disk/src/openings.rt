@@ -1,12 +1,12 @@
 //! The steps by which a room's file is opened, in their order.
 ghost use Rattle.std.specs.Prelude.{◌≡◌, ◌⊎◌, [], ◌∷◌, IfErr, IfOk, List, Option};
-ghost use Rattle.dispatch_room_cli.specs.declared.exit_status.Failure.TheVariants as failure;
+ghost use Rattle.dispatch_room_exit.specs.declared.exit_status.Failure.TheVariants as failure;
 ghost use Rattle.dispatch_room_disk.specs.DiskFaults.{IsFileFault};
 ghost use Rattle.dispatch_room_disk.specs.FileSteps.{Follows};
 ghost use Rattle.dispatch_room_disk.specs.OpeningSteps.{Step, begun, found, made, opened, opening};
 
 use crate::room_files::RoomFile;
-use dispatch_room_cli::exit_status::Failure;
+use dispatch_room_exit::exit_status::Failure;
 
 /// The calls of the system by which a room's file is opened.
 pub(crate) trait Opening {

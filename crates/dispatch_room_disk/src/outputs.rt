@@ -1,7 +1,7 @@
 //! What a command prints at last.
 ghost use Rattle.dispatch_room_disk.specs.CommandSteps.{Prints};
 
-use dispatch_room_cli::exit_status::{Done, Failure};
+use dispatch_room_exit::exit_status::{Done, Failure};
 use std::io::Write;
 
 /// Prints a text, and all is done; or the output fails.

@@ -1,8 +1,8 @@
 //! A copy of a room, put in the place of a file.
-ghost use Rattle.std.specs.Prelude.{◌≡◌, ◌≢◌, [], ◌∷◌, ℕ, IfErr, IfOk, IsErrAnd, IsOk, List};
-ghost use Rattle.std.specs.Prelude.{None, OnOk, Option, false, map, true};
+ghost use Rattle.std.specs.Prelude.{◌≡◌, ◌≢◌, [], ◌∷◌, ℕ, IfErr, IfOk, IsErrAnd, IsOk, List, None};
+ghost use Rattle.std.specs.Prelude.{OnOk, Option, false, map, true};
 ghost use Rattle.std.specs.IoError.{error_kind};
-ghost use Rattle.dispatch_room_cli.specs.declared.exit_status.Failure.TheVariants as failure;
+ghost use Rattle.dispatch_room_exit.specs.declared.exit_status.Failure.TheVariants as failure;
 ghost use Rattle.dispatch_room_disk.specs.DiskFaults.{IsFaultBy, IsFileFault};
 ghost use Rattle.dispatch_room_disk.specs.FileSteps.{Does, Follows, FollowsFor};
 ghost use Rattle.dispatch_room_disk.specs.ReplacingSteps.{IsFaultOf, Step, answered, compared};
@@ -18,8 +18,8 @@ use crate::file_causes::explain_unopened;
 use crate::new_files::private_options;
 use crate::systems::System;
 use dispatch_room_cli::database_names::ENDS;
-use dispatch_room_cli::exit_status::Failure;
-use dispatch_room_cli::failure_causes::Explainer;
+use dispatch_room_exit::exit_status::Failure;
+use dispatch_room_exit::failure_causes::Explainer;
 use sqlite::{File, Files, Unknown};
 use sqlite_std_file::OpenError;
 use std::fs;

@@ -1,6 +1,6 @@
 //! The system by which files are opened and replaced.
 
-use dispatch_room_cli::failure_causes::Explainer;
+use dispatch_room_exit::failure_causes::Explainer;
 
 /// The system, with its files, and who explains why a call of it fails.
 #[derive(Clone, Copy)]

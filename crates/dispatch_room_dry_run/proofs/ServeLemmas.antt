@@ -5,12 +5,12 @@ use Rattle.room_types.specs.declared.fleet.Terminal.{Terminal}
 use Rattle.room_types.specs.declared.refusal_statuses.Refusal.{Refusal}
 use Rattle.room_model.specs.Room.{Room}
 use Rattle.room_http.specs.ReplyMessages.{fixed_bytes}
-use Rattle.room_http.specs.declared.settings.Setting.{Setting}
+use Rattle.room_http.specs.declared.settings.HttpSettings.{HttpSettings}
 use Rattle.room_model.specs.Rooms.{Step}
 use Rattle.room_http.specs.declared.session.ServeEnd.{ServeEnd}
 use Rattle.room_http.specs.declared.session.ServeEnd.TheVariants.{Closed, Cut, ReadFault}
-use Rattle.room_http.specs.declared.session.ServeEnd.TheVariants.{WriteFault, ClockFault, Unkept}
-use Rattle.room_http.specs.declared.session.ServeEnd.TheVariants.{ReadsSpent, Memory}
+use Rattle.room_http.specs.declared.session.ServeEnd.TheVariants.{WriteFault, ClockFault}
+use Rattle.room_http.specs.declared.session.ServeEnd.TheVariants.{JournalFailed, ReadsSpent, Memory}
 use Rattle.room_http.specs.Arrivals.{Arrival, is_head_only}
 use Rattle.room_http.specs.Session.{Sides, Finish, Answered, HasActed, Unserved, Unwritten, Broken}
 use Rattle.room_http.specs.Session.{Untimed, ServeIs}
@@ -18,7 +18,7 @@ use Rattle.dispatch_room_dry_run.specs.Example.{unstated}
 use Rattle.room_http.specs.Course.{Course}
 use Rattle.room_http.specs.Dialogues.{Timed, IsCaused, IsFront, BreaksOff, WritesDialogue}
 
-module _ (step : Step) (setting : Setting) (old : Sides) (new : Finish) (trusted : Type 0)
+module _ (step : Step) (setting : HttpSettings) (old : Sides) (new : Finish) (trusted : Type 0)
     (trust : trusted) (stood stands : List Terminal → Room → Type 0)
     (unserved : Timed → List Terminal → Room → Type 0) (failed : Type 0) (asked : List Terminal → Room → Type 0)
     (is : (terminals : List Terminal) (room : Room) → asked terminals room → stood terminals room) where
@@ -125,7 +125,7 @@ module _ (step : Step) (setting : Setting) (old : Sides) (new : Finish) (trusted
     ),
     fault.1,
   )
-  serves course budget Unkept cut = (
+  serves course budget JournalFailed cut = (
     (
       cut.0.0,
       cut.0.1,

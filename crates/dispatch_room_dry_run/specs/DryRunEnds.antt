@@ -4,13 +4,13 @@ use Rattle.room_http.specs.Session.{Finish, Sides}
 use Rattle.room_http.specs.declared.session.ServeEnd.{ServeEnd}
 use Rattle.room_http.specs.declared.session.ServeEnd.TheVariants as end
 use Rattle.room_types.specs.declared.refusal_statuses.Refusal.{Refusal}
-use Rattle.dispatch_room_cli.specs.ExitStatus.{refused, status_after}
+use Rattle.dispatch_room_exit.specs.ExitStatus.{refused, status_after}
 use Rattle.dispatch_room_dry_run.specs.Example.{IsDryRun}
-use Rattle.dispatch_room_cli.specs.declared.exit_status.Done.{Done}
-use Rattle.dispatch_room_cli.specs.declared.exit_status.Done.TheVariants.{Whole}
-use Rattle.dispatch_room_cli.specs.declared.exit_status.Failure.{Failure}
-use Rattle.dispatch_room_cli.specs.declared.exit_status.Failure.TheVariants.{Connection, Journal}
-use Rattle.dispatch_room_cli.specs.declared.exit_status.Failure.TheVariants.{Memory, Network}
+use Rattle.dispatch_room_exit.specs.declared.exit_status.Done.{Done}
+use Rattle.dispatch_room_exit.specs.declared.exit_status.Done.TheVariants.{Whole}
+use Rattle.dispatch_room_exit.specs.declared.exit_status.Failure.{Failure}
+use Rattle.dispatch_room_exit.specs.declared.exit_status.Failure.TheVariants.{Connection, Journal}
+use Rattle.dispatch_room_exit.specs.declared.exit_status.Failure.TheVariants.{Memory, Network}
 
 -- a program that serves one connection is done where it closed, and else fails
 abbrev pub ended : ServeEnd → Result Done Failure
@@ -21,7 +21,7 @@ ended end.WriteFault = Err Network
 ended end.ClockFault = Err Connection
 ended end.ReadsSpent = Err Connection
 ended end.Memory = Err Memory
-ended end.Unkept = Err Journal
+ended end.JournalFailed = Err Journal
 
 -- the same where no room could be made to serve
 abbrev pub end_of : Result ServeEnd Refusal → Result Done Failure

@@ -8,7 +8,7 @@ use Rattle.room_types.specs.declared.fleet.FleetRow.{FleetRow}
 use Rattle.room_types.specs.declared.fleet.Terminal.{Terminal}
 use Rattle.room_model.specs.Room.{Room}
 use Rattle.room_http.specs.Settings.{IsSetting}
-use Rattle.room_http.specs.declared.settings.Setting.{Setting}
+use Rattle.room_http.specs.declared.settings.HttpSettings.{HttpSettings}
 use Rattle.room_model.specs.Rooms.{machine}
 use Rattle.room_store_writes.specs.NewRoom.{in_order, new_room}
 use Rattle.room_store.specs.FleetEnrolment.{room_after_rows, terminals_after_rows}
@@ -113,7 +113,7 @@ abbrev pub IsExample : List Terminal → Room → Type 0
 IsExample terminals room = (terminals ≡ terminals_with_crews) × (room ≡ room_with_fleet)
 
 -- the zone of its plan, and no history
-abbrev pub IsExampleSetting : Setting → Type 0
+abbrev pub IsExampleSetting : HttpSettings → Type 0
 IsExampleSetting = IsSetting example_plan.zone false
 
 -- of the room afterwards, and of what a stop leaves, nothing is stated
@@ -123,7 +123,7 @@ unstated terminals room = ⊤
 -- what is written is the dialogue of the example room with the messages that are read, in so many
 -- reads at most
 abbrev pub IsExampleDialogue : Sides → Finish → ℕ → ServeEnd → Type 0
-IsExampleDialogue old new budget end = (setting : Setting) × IsExampleSetting setting
+IsExampleDialogue old new budget end = (setting : HttpSettings) × IsExampleSetting setting
     × ((course : Course)
     × ServeIs machine setting old new ⊤ IsExample unstated (λ x. unstated) ⊤ course budget end)
 

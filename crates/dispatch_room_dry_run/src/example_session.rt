@@ -9,7 +9,7 @@ use room_http::clocks::Clock;
 use room_http::handlers::Handler;
 use room_http::observers::Nobody;
 use room_http::session::{Connection, ServeEnd, serve};
-use room_http::settings::Setting;
+use room_http::settings::HttpSettings;
 use room_http_messages::sinks::Sink;
 use room_http_messages::sources::Source;
 use room_http_time::zones::Zone;
@@ -53,7 +53,7 @@ pub fn serve_example<R: Source, W: Sink, C: Clock>(
 {
     let mut store = example_room(alloc)?;
     let zone = Zone::read(store.plan().zone()).unwrap();
-    let setting = Setting {
+    let setting = HttpSettings {
         zone,
         history: false,
     };

@@ -7,7 +7,7 @@ ghost use Rattle.dispatch_room_dry_run.specs.DryRunEnds.{IsRun, end_of, ended};
 ghost use Rattle.dispatch_room_dry_run.specs.Example.{IsDryRun};
 
 use crate::dry_run::dry_run;
-use dispatch_room_cli::exit_status::{Done, Failure, end, refused};
+use dispatch_room_exit::exit_status::{Done, Failure, end, refused};
 use room_http::session::{Connection, ServeEnd};
 use room_http_messages::sinks::Sink;
 use room_http_messages::sources::Source;
@@ -66,6 +66,6 @@ fn ended(end: ServeEnd) -> Result<Done, Failure>
         ServeEnd::Cut | ServeEnd::ClockFault | ServeEnd::ReadsSpent => Err(Failure::Connection),
         ServeEnd::ReadFault | ServeEnd::WriteFault => Err(Failure::Network),
         ServeEnd::Memory => Err(Failure::Memory),
-        ServeEnd::Unkept => Err(Failure::Journal),
+        ServeEnd::JournalFailed => Err(Failure::Journal),
     }
 }

@@ -8,7 +8,7 @@ use Rattle.std.proofs.lemmas.Grind.{flat_map-append}
 use Rattle.room_types.specs.declared.fleet.Terminal.{Terminal}
 use Rattle.room_model.specs.Room.{Room}
 use Rattle.room_http_messages.proofs.StreamLemmas.{Appends-more}
-use Rattle.room_http.specs.declared.settings.Setting.{Setting}
+use Rattle.room_http.specs.declared.settings.HttpSettings.{HttpSettings}
 use Rattle.room_http.specs.Dialogues.{IsFront}
 use Rattle.room_model.specs.Rooms.{Step}
 use Rattle.dispatch_room_journal.specs.declared.entry_prefixes.EntryLayout.{EntryLayout}
@@ -44,7 +44,7 @@ frames_more a b c us ts first second =
     subst (λ (t : List ℕ). Appends a c t) (frames_append us ts)
     (Appends-more a b c (frames_of us) (frames_of ts) first second)
 
-module _ (step : Step) (setting : Setting) (digest_of : DigitsOf) (trusted : Type 0)
+module _ (step : Step) (setting : HttpSettings) (digest_of : DigitsOf) (trusted : Type 0)
     (stood stands : List Terminal → Room → Type 0) (before : Option (List ℕ))
     (held holds : Option (List ℕ)) (at : ℕ) (sent response slice : List ℕ)
     (x : WasPlayed step setting trusted stood stands at sent response) (same : slice ≡ response)
@@ -119,7 +119,7 @@ module _ (step : Step) (setting : Setting) (digest_of : DigitsOf) (trusted : Typ
     )
 
 -- what followed the answer is no entry, or another status
-pub each_follows : (step : Step) (setting : Setting) (digest_of : DigitsOf) (trusted : Type 0)
+pub each_follows : (step : Step) (setting : HttpSettings) (digest_of : DigitsOf) (trusted : Type 0)
     (stood stands : List Terminal → Room → Type 0) (before mid : Option (List ℕ)) (at : ℕ)
     (sent slice : List ℕ)
     (p : Play) (fault : ReplayFault) → p.response ≡ slice → Consumes before mid (texts_of (message at sent ∷ []))
@@ -135,7 +135,7 @@ each_follows step setting digest_of trusted stood stands before mid at sent slic
     (λ never. absurd never) (λ never. never) (λ open_ head never. absurd never) (follows p same))
 
 -- a message is next: it was played, and its answer was written
-module _ (step : Step) (setting : Setting) (digest_of : DigitsOf) (early late : Type 0)
+module _ (step : Step) (setting : HttpSettings) (digest_of : DigitsOf) (early late : Type 0)
     (earlier : late → early) (stood middle stands : List Terminal → Room → Type 0)
     (before mid after held holds : Option (List ℕ)) (kept : List ℕ) (looked read_failed write_failed : Bool) (at : ℕ)
     (layout : EntryLayout) (next : Next) (is : next ≡ Message (record { at = at; layout = layout }))

@@ -14,7 +14,7 @@ use Rattle.room_types.specs.declared.refusal_statuses.Refusal.{Refusal}
 use Rattle.room_types.specs.declared.refusal_statuses.Refusal.TheVariants.{NoSuchIncident}
 use Rattle.room_model.specs.Room.{Room}
 use Rattle.room_http.specs.ReplyMessages.{line, reply_bytes, status_of}
-use Rattle.room_http.specs.declared.settings.Setting.{Setting}
+use Rattle.room_http.specs.declared.settings.HttpSettings.{HttpSettings}
 use Rattle.room_model.specs.Rooms.{Step}
 use Rattle.room_model.specs.declared.digests.Head.{Head}
 use Rattle.room_http.specs.Arrivals.{message as arrived, refused, is_closing, is_head_only}
@@ -77,7 +77,7 @@ status_first response date head_only closing =
     ap (take 3) front.1 ∙ take_at d front.0 3 (three_digits (status_of response) (status_fits response))
 
 -- an answer's bytes give its status
-pub status_shown : (step : Step) (setting : Setting) (terminals : List Terminal) (room : Room) (x : Timed)
+pub status_shown : (step : Step) (setting : HttpSettings) (terminals : List Terminal) (room : Room) (x : Timed)
     (after : Room) (bytes : List ℕ) → IsReplyTo step setting terminals room x after bytes
     → (status : ℕ) × IsEntry (answer status) × (status_in bytes ≡ decimal status)
 status_shown step setting terminals room x after bytes reply =
@@ -154,7 +154,7 @@ whole_front entries others e tail rest a is end front follows = elim (front_tail
 ]
 
 -- ---- turns of a text, from a room to another
-module _ (step : Step) (setting : Setting) (digits : DigitsOf) (terminals : List Terminal) where
+module _ (step : Step) (setting : HttpSettings) (digits : DigitsOf) (terminals : List Terminal) where
   pub record Recorded (room : Room) (list : List ℕ) (turns : List Turn) (after : Room) : Type 0 where
     pub are_turns : All IsTurn turns
     pub replayed : All IsReplayed turns
@@ -235,7 +235,7 @@ status_text_is : (response : List ℕ) (status : ℕ) → status_in response ≡
 status_text_is response status is = ap (λ (t : List ℕ). (codes "answer " ++ t) ++ 10 ∷ []) (sym is)
 
 -- ---- what was kept of arrivals that were answered
-module _ (step : Step) (setting : Setting) (digits : DigitsOf) (terminals : List Terminal) where
+module _ (step : Step) (setting : HttpSettings) (digits : DigitsOf) (terminals : List Terminal) where
   abbrev TurnsOf : Room → List ℕ → Room → List (List ℕ) → Type 0
   TurnsOf held text after response = (turns : List Turn)
       × Recorded step setting digits terminals held text turns after × (answers_of turns ≡ response)
@@ -310,7 +310,7 @@ pub no_answer : (turns : List Turn) (t : Turn) → answers_of (t ∷ []) ≡ []
 no_answer turns t none =
     answers_join turns (t ∷ []) ∙ ap (λ a. answers_of turns ++ a) none ∙ append-nil (answers_of turns)
 
-module _ (step : Step) (setting : Setting) (digits : DigitsOf) (terminals : List Terminal)
+module _ (step : Step) (setting : HttpSettings) (digits : DigitsOf) (terminals : List Terminal)
     (Given : List (List ℕ) → Type 0) (held : Room) where
   -- nothing came yet
   pub record Fresh (list : List ℕ) (now : Room) : Type 0 where
@@ -656,7 +656,7 @@ ends_open-push (t ∷ []) at sent = refl
 ends_open-push (t ∷ u ∷ turns) at sent = ends_open-push (u ∷ turns) at sent
 
 -- ---- a connection
-module _ (step : Step) (setting : Setting) (digits : DigitsOf) (terminals : List Terminal)
+module _ (step : Step) (setting : HttpSettings) (digits : DigitsOf) (terminals : List Terminal)
     (Given Next : List (List ℕ) → Type 0) (held : Room) where
   pub come_course : (list text : List ℕ) (now after : Room) (outs : List Timed)
       (answers : List (List ℕ))

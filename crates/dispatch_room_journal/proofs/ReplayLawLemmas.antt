@@ -6,7 +6,7 @@ use Rattle.std.specs.Prelude.{All}
 use Rattle.std.proofs.lemmas.List.Elements.{All-head, All-tail}
 use Rattle.room_types.specs.declared.fleet.Terminal.{Terminal}
 use Rattle.room_model.specs.Room.{Room}
-use Rattle.room_http.specs.declared.settings.Setting.{Setting}
+use Rattle.room_http.specs.declared.settings.HttpSettings.{HttpSettings}
 use Rattle.room_model.specs.Rooms.{Step, machine}
 use Rattle.room_http_messages.specs.Messages.{HasMessage}
 use Rattle.room_http_messages.proofs.LawLemmas.{one_message_law}
@@ -47,7 +47,7 @@ waits (left_out at sent) = true
 abbrev AreAlike : Turn → Turn → Type 0
 AreAlike t u = (¬ ((is_tried t ≡ true) × (waits u ≡ true))) × (¬ ((waits t ≡ true) × (is_tried u ≡ true)))
 
-module _ (step : Step) (setting : Setting) (digest_of : DigitsOf) (terminals : List Terminal) where
+module _ (step : Step) (setting : HttpSettings) (digest_of : DigitsOf) (terminals : List Terminal) where
   -- equal bytes at equal moments, in equal rooms, are answered equally
   pub same_play : (held after other : Room) (p q : Play) → IsPlay p → IsPlay q → p.at ≡ q.at
       → p.sent ≡ q.sent

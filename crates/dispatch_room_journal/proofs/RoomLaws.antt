@@ -6,7 +6,7 @@ use Rattle.std.proofs.lemmas.List.{append_cancel_left}
 use Rattle.std.proofs.lemmas.List.Elements.{All-head, All-tail}
 use Rattle.room_types.specs.declared.fleet.Terminal.{Terminal}
 use Rattle.room_model.specs.Room.{Room}
-use Rattle.room_http.specs.declared.settings.Setting.{Setting}
+use Rattle.room_http.specs.declared.settings.HttpSettings.{HttpSettings}
 use Rattle.room_http_messages.specs.Messages.{WholeMessage, HasMessage}
 use Rattle.room_model.specs.Rooms.{Step}
 use Rattle.room_http.specs.Arrivals.{message as arrived, refused}
@@ -93,7 +93,7 @@ no_status_next (tried p ∷ ts) response more same =
 no_status_next (left_out at sent ∷ ts) response more same =
     message_no_status at sent (texts_of (entries_of ts)) response more same
 
-module _ (step : Step) (setting : Setting) (digest_of : DigitsOf) (terminals : List Terminal) where
+module _ (step : Step) (setting : HttpSettings) (digest_of : DigitsOf) (terminals : List Terminal) where
   -- what is shown: the room is the one that was served, and its answers are those that were given
   abbrev Same : List Timed → List (List ℕ) → Room → Room → List Turn → Type 0
   Same outs answers after other ts = (other ≡ after) × (answers_of ts ≡ answers_to_messages outs answers)

@@ -6,7 +6,7 @@ use Rattle.std.specs.Io.KnownBytes.{Consumes, prepend_known}
 use Rattle.std.proofs.KnownBytes.{Consumes-kept, Keeps-refl}
 use Rattle.room_types.specs.declared.fleet.Terminal.{Terminal}
 use Rattle.room_model.specs.Room.{Room}
-use Rattle.room_http.specs.declared.settings.Setting.{Setting}
+use Rattle.room_http.specs.declared.settings.HttpSettings.{HttpSettings}
 use Rattle.room_model.specs.Digests.{IsMiss}
 use Rattle.room_model.specs.Rooms.{Step}
 use Rattle.room_model.specs.declared.digests.Miss.{Miss}
@@ -43,7 +43,7 @@ use Rattle.dispatch_room_journal.proofs.NextEntryLemmas.{no_status_front, head_f
 use Rattle.dispatch_room_journal.proofs.TurnLemmas.{one_by}
 
 -- the message was played, with this answer
-abbrev pub WasPlayed : Step → Setting → Type 0 → (List Terminal → Room → Type 0)
+abbrev pub WasPlayed : Step → HttpSettings → Type 0 → (List Terminal → Room → Type 0)
     → (List Terminal → Room → Type 0) → ℕ → List ℕ → List ℕ → Type 0
 WasPlayed step setting trusted stood stands at sent response =
     (p : Play) × (p.at ≡ at) × (p.sent ≡ sent) × (p.response ≡ response) × IsPlay p
@@ -57,7 +57,7 @@ ShowsDigest digest_of trusted stood head is =
     trusted → (terminals : List Terminal) (room : Room) → stood terminals room
     → (IsTrue is ↔ (IsHeadOf digest_of head terminals room))
 
-module _ (step : Step) (setting : Setting) (digest_of : DigitsOf) (trusted : Type 0)
+module _ (step : Step) (setting : HttpSettings) (digest_of : DigitsOf) (trusted : Type 0)
     (stood stands : List Terminal → Room → Type 0) (at : ℕ) (sent : List ℕ) where
   pub answered_turn : (response : List ℕ) (status : ℕ)
       → WasPlayed step setting trusted stood stands at sent response → status_in response ≡ decimal status
@@ -123,7 +123,7 @@ module _ (step : Step) (setting : Setting) (digest_of : DigitsOf) (trusted : Typ
   }
 
 -- what holds at a time, and after a look at the digest
-module _ (step : Step) (setting : Setting) (digest_of : DigitsOf) (early late : Type 0)
+module _ (step : Step) (setting : HttpSettings) (digest_of : DigitsOf) (early late : Type 0)
     (earlier : late → early) (stood mid stands : List Terminal → Room → Type 0) (at : ℕ)
     (sent : List ℕ) where
   pub caught_turn : (head : Head) (is : Bool) → Unmoved early stood mid
@@ -178,13 +178,13 @@ module _ (step : Step) (setting : Setting) (digest_of : DigitsOf) (early late : 
       )
 
 -- what follows a message explains why it stopped the replay
-abbrev pub Shows : Bool → Step → Setting → DigitsOf → Type 0 → (List Terminal → Room → Type 0)
+abbrev pub Shows : Bool → Step → HttpSettings → DigitsOf → Type 0 → (List Terminal → Room → Type 0)
     → (List Terminal → Room → Type 0) → ReplayFault → List Turn → List ℕ → Type 0
 Shows waits step setting digest_of trusted stood stands fault last =
     Explains waits (true ≡ false) ⊥ (LeadsElsewhere step setting digest_of trusted stood stands last) last fault
 
 -- why a message stopped the replay
-module _ (waits : Bool) (step : Step) (setting : Setting) (digest_of : DigitsOf) (trusted : Type 0)
+module _ (waits : Bool) (step : Step) (setting : HttpSettings) (digest_of : DigitsOf) (trusted : Type 0)
     (stood stands : List Terminal → Room → Type 0) (before : Option (List ℕ)) (at : ℕ)
     (sent : List ℕ)
     (is : IsEntry (message at sent)) (read_failed write_failed : Bool) where
@@ -361,7 +361,7 @@ copied kept layout at sent copy x same = subst (λ (t : List ℕ). IsLayout kept
 
 -- a message was copied and taken, and then the next entry was read
 module _ {R : Type 0} (left : R → Option (List ℕ)) (has_failed has_ended : R → Bool) (old new : R)
-    (step : Step) (setting : Setting) (digest_of : DigitsOf) (trusted : Type 0)
+    (step : Step) (setting : HttpSettings) (digest_of : DigitsOf) (trusted : Type 0)
     (stood stands : List Terminal → Room → Type 0) (kept mid ahead : List ℕ) (at : ℕ) (layout next : EntryLayout)
     (sent copy : List ℕ) (is : IsLayout kept layout (message at sent)) (same : copy ≡ sent)
     (gone : mid ≡ drop layout.end kept) (found : Option EntryLayout) (some : found ≡ Some next)

@@ -11,7 +11,7 @@ use Rattle.std.proofs.lemmas.List.Sums.{sum_by-append}
 use Rattle.room_types.specs.declared.fleet.Terminal.{Terminal}
 use Rattle.room_types.specs.declared.refusal_statuses.Refusal.TheVariants.{Memory}
 use Rattle.room_model.specs.Room.{Room}
-use Rattle.room_http.specs.declared.settings.Setting.{Setting}
+use Rattle.room_http.specs.declared.settings.HttpSettings.{HttpSettings}
 use Rattle.room_model.specs.Rooms.{Step}
 use Rattle.room_http.specs.Dialogues.{IsDialogue}
 use Rattle.room_http.specs.KeptMessages.{Unmoved}
@@ -220,7 +220,7 @@ head_by : (until : Option ℕ) (head : RoomHead) → IsEntry (room head)
     → AreBy until (room head ∷ [])
 head_by until head is = all_one (IsIn until) (room head) (is, mark_by until (room head) tt)
 
-module _ (step : Step) (setting : Setting) (digest_of : DigitsOf) where
+module _ (step : Step) (setting : HttpSettings) (digest_of : DigitsOf) where
   -- what holds before a look at the room
   pub Leads-after : (early late : Type 0) (stood mid stands : List Terminal → Room → Type 0)
       (ts : List Turn) → (late → early) → Unmoved early stood mid
@@ -262,7 +262,7 @@ module _ (step : Step) (setting : Setting) (digest_of : DigitsOf) where
         }
 
 -- a head is next
-module _ (step : Step) (setting : Setting) (digest_of : DigitsOf) (trusted : Type 0)
+module _ (step : Step) (setting : HttpSettings) (digest_of : DigitsOf) (trusted : Type 0)
     (stood stands : List Terminal → Room → Type 0) (before after : Option (List ℕ))
     (until : Option ℕ) (Kind : Turn → Type 0)
     (kind : (head : RoomHead) → Kind (compared head)) (failed : Bool) (kept : List ℕ) (old new : Progress)
@@ -292,7 +292,7 @@ module _ (step : Step) (setting : Setting) (digest_of : DigitsOf) (trusted : Typ
       )
 
 -- what stood next stopped it
-module _ (waits : Bool) (step : Step) (setting : Setting) (digest_of : DigitsOf) (trusted : Type 0)
+module _ (waits : Bool) (step : Step) (setting : HttpSettings) (digest_of : DigitsOf) (trusted : Type 0)
     (stood stands : List Terminal → Room → Type 0) (before : Option (List ℕ))
     (until : Option ℕ) where
   pub next_stops : (is_begun : Bool) (fault : ReplayFault) (read_failed write_failed : Bool)
@@ -321,7 +321,7 @@ module _ (waits : Bool) (step : Step) (setting : Setting) (digest_of : DigitsOf)
   }
 
 -- a message that is next stopped it
-module _ (waits : Bool) (step : Step) (setting : Setting) (digest_of : DigitsOf) (early late : Type 0)
+module _ (waits : Bool) (step : Step) (setting : HttpSettings) (digest_of : DigitsOf) (early late : Type 0)
     (earlier : late → early) (stood mid stands : List Terminal → Room → Type 0)
     (a b : Option (List ℕ)) (until : Option ℕ) (at : ℕ) (sent : List ℕ) (stays : Unmoved early stood mid)
     (same : Keeps a b) (by : IsBy until (message at sent)) where
@@ -375,7 +375,7 @@ goes_on LeftOut = true
 goes_on Last = false
 
 -- where a message is left out, the room stays
-left_replay : (step : Step) (setting : Setting) (digest_of : DigitsOf) (terminals : List Terminal)
+left_replay : (step : Step) (setting : HttpSettings) (digest_of : DigitsOf) (terminals : List Terminal)
     (held : Room) (t : Turn) → is_left_out t ≡ true
     → IsReplay step setting digest_of terminals held (t ∷ []) held
 left_replay step setting digest_of terminals held (compared head) left = absurd (cc)
@@ -385,7 +385,7 @@ left_replay step setting digest_of terminals held (tried p) left = absurd (cc)
 left_replay step setting digest_of terminals held (left_out at sent) left = (held, refl, refl)
 
 -- a message is next, and it stopped the replay, or this became of it
-module _ (step : Step) (setting : Setting) (digest_of : DigitsOf) (early late : Type 0)
+module _ (step : Step) (setting : HttpSettings) (digest_of : DigitsOf) (early late : Type 0)
     (earlier : late → early) (stood mid stands : List Terminal → Room → Type 0)
     (a b : Option (List ℕ)) (until : Option ℕ) (kept : List ℕ) (looked : Bool) (at : ℕ) (layout : EntryLayout)
     (next : Next) (is : next ≡ Message (record { at = at; layout = layout })) (old : Progress)
@@ -483,7 +483,7 @@ module _ (step : Step) (setting : Setting) (digest_of : DigitsOf) (early late : 
               λ _. consumes_all a c (entries_of (y.1.turn ∷ [])) until passes.read end,
             )
 
-module _ (step : Step) (setting : Setting) (digest_of : DigitsOf) (terminals : List Terminal) where
+module _ (step : Step) (setting : HttpSettings) (digest_of : DigitsOf) (terminals : List Terminal) where
   pub IsReplay-append : (held mid after : Room) (us ts : List Turn)
       → IsReplay step setting digest_of terminals held us mid
       → IsReplay step setting digest_of terminals mid ts after
@@ -510,7 +510,7 @@ module _ (step : Step) (setting : Setting) (digest_of : DigitsOf) (terminals : L
       subst (λ (r : Room). IsDialogue step setting terminals r (arrivals_of ts) after (bytes_of ts)) x.1
       (dialogue_of x.0 ts after x.2)
 
-module _ (step : Step) (setting : Setting) (digest_of : DigitsOf) (early late : Type 0)
+module _ (step : Step) (setting : HttpSettings) (digest_of : DigitsOf) (early late : Type 0)
     (earlier : late → early) (stood mid stands : List Terminal → Room → Type 0)
     (us ts : List Turn) where
   pub Leads-append : Leads step setting digest_of early stood mid us
@@ -670,7 +670,7 @@ module _ (step : Step) (setting : Setting) (digest_of : DigitsOf) (early late : 
               begins (inr (begun-append us ts (begun_by old.is_begun us y.3 progress.begun))) x.leads x.due
 
 -- no more turns are taken
-module _ (step : Step) (setting : Setting) (digest_of : DigitsOf) (trusted : Type 0)
+module _ (step : Step) (setting : HttpSettings) (digest_of : DigitsOf) (trusted : Type 0)
     (stood stands : List Terminal → Room → Type 0) (a b : Option (List ℕ)) (until : Option ℕ)
     (Kind : Turn → Type 0) (us : List Turn) where
   pub exhausted : (waits : Bool) (old : Progress) (read_failed write_failed : Bool) (s : Stopped)
@@ -687,7 +687,7 @@ module _ (step : Step) (setting : Setting) (digest_of : DigitsOf) (trusted : Typ
       (λ trust terminals held stood_for. (held, refl, stood_for)) (read, write)
 
 -- nothing was done
-pub nothing_done : (waits : Bool) (step : Step) (setting : Setting) (digest_of : DigitsOf)
+pub nothing_done : (waits : Bool) (step : Step) (setting : HttpSettings) (digest_of : DigitsOf)
     (trusted : Type 0) (stands : List Terminal → Room → Type 0) (left : Option (List ℕ))
     (until : Option ℕ)
     (Kind : Turn → Type 0) (read_failed write_failed : Bool) (s : Stopped)

@@ -11,7 +11,7 @@ use Rattle.room_types.specs.declared.asks.Event.{Event}
 use Rattle.room_types.specs.declared.fleet.Terminal.{Terminal}
 use Rattle.room_types.specs.declared.refusal_statuses.Refusal.{Refusal}
 use Rattle.room_model.specs.Room.{Room}
-use Rattle.room_http.specs.declared.settings.Setting.{Setting}
+use Rattle.room_http.specs.declared.settings.HttpSettings.{HttpSettings}
 use Rattle.room_http_messages.specs.Messages.{WholeMessage, HasMessage}
 use Rattle.room_http.specs.ReplyMessages.{IsDateOf, reply_bytes}
 use Rattle.room_model.specs.Rooms.{Step}
@@ -117,7 +117,7 @@ replayed_left (caught_up p head) replayed is = is
 replayed_left (tried p) replayed is = absurd replayed
 replayed_left (left_out at sent) replayed is = is
 
-module _ (step : Step) (setting : Setting) (digest_of : DigitsOf) (terminals : List Terminal) where
+module _ (step : Step) (setting : HttpSettings) (digest_of : DigitsOf) (terminals : List Terminal) where
   -- the rooms after the first turns and after the others
   split_replay : (held end : Room) (us ts : List Turn)
       → IsReplay step setting digest_of terminals held (us ++ ts) end
@@ -446,7 +446,7 @@ one_split until (w ∷ ws) (u ∷ us) zs vs all is a b c d =
     λ i. first i ∷ rest i
 
 -- a replay of a list that can be replayed
-module _ (step : Step) (setting : Setting) (digest_of : DigitsOf) (terminals : List Terminal)
+module _ (step : Step) (setting : HttpSettings) (digest_of : DigitsOf) (terminals : List Terminal)
     (held after : Room) (ts : List Turn) (turns : All IsTurn ts) (kinds : All IsReplayed ts)
     (entries : All IsEntry (entries_of ts)) (begun : (ts ≡ []) ⊎ IsBegun ts)
     (x : IsReplay step setting digest_of terminals held ts after) (until : Option ℕ)
@@ -610,7 +610,7 @@ module _ (step : Step) (setting : Setting) (digest_of : DigitsOf) (terminals : L
 
 module _ {M : Type 0} (step : Step) (digest_of : DigitsOf) (is_trusted : M → Type 0)
     (stands : M → List Terminal → Room → Type 0) where
-  gives : (setting : Setting) (terminals : List Terminal) (held then after : Room)
+  gives : (setting : HttpSettings) (terminals : List Terminal) (held then after : Room)
       (ts us vs : List Turn) → All IsTurn ts → All IsReplayed ts → All IsEntry (entries_of ts)
       → (ts ≡ []) ⊎ IsBegun ts → IsReplay step setting digest_of terminals held ts after
       → ts ≡ us ++ vs → IsReplay step setting digest_of terminals held us then

@@ -5,7 +5,7 @@ use Rattle.std.specs.List.{flat_map}
 use Rattle.std.specs.Io.KnownBytes.{Appends, Consumes, Keeps}
 use Rattle.room_types.specs.declared.fleet.Terminal.{Terminal}
 use Rattle.room_model.specs.Room.{Room}
-use Rattle.room_http.specs.declared.settings.Setting.{Setting}
+use Rattle.room_http.specs.declared.settings.HttpSettings.{HttpSettings}
 use Rattle.room_model.specs.Rooms.{Step}
 use Rattle.room_http.specs.Dialogues.{IsFront}
 use Rattle.dispatch_room_journal.specs.Entries.{answer, IsEntry, texts_of}
@@ -46,7 +46,7 @@ FollowIs before after failed response (Err fault) =
     ((p : Play) → p.response ≡ response → BeginsWith before []
     (Explains false ⊥ ⊥ (λ open_ head. ⊥) (tried p ∷ []) fault)) × IsDueTo failed false fault
 
-module _ (step : Step) (setting : Setting) (digest_of : DigitsOf) (trusted : Type 0)
+module _ (step : Step) (setting : HttpSettings) (digest_of : DigitsOf) (trusted : Type 0)
     (stood stands : List Terminal → Room → Type 0)
     (before after : Option (List ℕ)) (held holds : Option (List ℕ)) where
   -- the message was played, and its answer was written; or why it stopped, and the first bytes of
@@ -79,7 +79,7 @@ module _ (step : Step) (setting : Setting) (digest_of : DigitsOf) (trusted : Typ
 -- All messages of a list were played, and their answers written; or it stopped, and those of some
 -- turns were, and the first bytes of the answer to the last. No message waits for what stands after
 -- it.
-module _ (step : Step) (setting : Setting) (digest_of : DigitsOf) (trusted : Type 0)
+module _ (step : Step) (setting : HttpSettings) (digest_of : DigitsOf) (trusted : Type 0)
     (stood stands : List Terminal → Room → Type 0) (left held holds : Option (List ℕ)) where
   abbrev pub AnswersEach : Bool → Bool → Result ℕ Stopped → Type 0
   AnswersEach read_failed write_failed (Ok messages) =

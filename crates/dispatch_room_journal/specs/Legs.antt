@@ -1,7 +1,7 @@
 -- The rows that stand behind a leg of a list that is read.
 use Rattle.std.specs.Prelude.{◌≡◌, ℕ, List, Option}
 use Rattle.dispatch_room_journal.specs.declared.read_progress.Mode.{Mode}
-use Rattle.dispatch_room_journal.specs.declared.read_progress.Reel.{Reel}
+use Rattle.dispatch_room_journal.specs.declared.read_progress.JournalCursor.{JournalCursor}
 use Rattle.dispatch_room_journal.specs.declared.read_progress.Mode.TheVariants.{Fresh, Plain, Chain}
 use Rattle.dispatch_room_journal.specs.declared.read_progress.Mode.TheVariants.{Done}
 use Rattle.dispatch_room_journal.specs.declared.read_progress.Reach.TheVariants.{Full, Leg}
@@ -11,9 +11,9 @@ use Rattle.dispatch_room_journal.specs.declared.row_runs.Behind.TheVariants.{End
 use Rattle.dispatch_room_journal.specs.ReadSteps.{left_in}
 use Rattle.dispatch_room_journal.specs.RowRuns.{TakesKnown}
 
--- what is left to be given by a reel, and by the bytes that are left to be read
-abbrev pub left_to : Reel → Option (List ℕ) → Option (List ℕ)
-left_to reel left = left_in reel.mode reel.vouched reel.inbox left
+-- what is left to be given by a cursor, and by the bytes that are left to be read
+abbrev pub left_to : JournalCursor → Option (List ℕ) → Option (List ℕ)
+left_to cursor left = left_in cursor.mode cursor.vouched cursor.inbox left
 
 -- What was taken where reading is: of a chain that is read by legs the rows that stand next, and
 -- reading goes on behind them; else none. Behind a list that is no chain there is nothing.

@@ -11,7 +11,7 @@ use Rattle.dispatch_room_journal.specs.declared.entry_reader.EntryFault.TheVaria
 use Rattle.dispatch_room_journal.specs.WholeEntries.{Follows, most_bytes}
 use Rattle.dispatch_room_journal.specs.Entries.{Entry, IsEntry, IsForeign, IsPart, line_of}
 use Rattle.dispatch_room_journal.specs.Entries.{texts_of}
-use Rattle.dispatch_room_journal.specs.declared.list_tallies.Flaw.{Flaw}
+use Rattle.dispatch_room_journal.specs.declared.list_tallies.Defect.{Defect}
 use Rattle.dispatch_room_journal.specs.declared.list_tallies.Span.{Span}
 use Rattle.dispatch_room_journal.specs.declared.list_tallies.Tally.{Tally}
 
@@ -52,8 +52,8 @@ EndsAs read_failed entries rest Foreign = IsForeign rest
 EndsAs read_failed entries rest Read = (read_failed ≡ true) ⊎ (length entries ≡ most_bytes)
 
 -- the text's first entries are followed by none, at the message after theirs
-abbrev pub IsFlawed : Bool → List ℕ → Flaw → Type 0
-IsFlawed read_failed text flaw =
+abbrev pub IsFlawed : Bool → List ℕ → Defect → Type 0
+IsFlawed read_failed text defect =
     (entries : List Entry) × (rest : List ℕ) × Follows text entries rest
-    × EndsAs read_failed entries rest flaw.fault
-    × (flaw.number ≡ min (length (moments_of entries) + 1) most_bytes)
+    × EndsAs read_failed entries rest defect.fault
+    × (defect.number ≡ min (length (moments_of entries) + 1) most_bytes)

@@ -5,7 +5,7 @@ use Rattle.room_types.specs.declared.fleet.Terminal.{Terminal}
 use Rattle.room_model.specs.FleetRows.{AreTerminals}
 use Rattle.room_model.specs.Room.{Room}
 use Rattle.room_model.specs.RoomAgreements.{IsWellFormed}
-use Rattle.room_http.specs.declared.settings.Setting.{Setting}
+use Rattle.room_http.specs.declared.settings.HttpSettings.{HttpSettings}
 use Rattle.room_model.specs.Rooms.{Step, IsUnavailable, machine}
 use Rattle.dispatch_room_journal.specs.Entries.{IsEntry, texts_of}
 use Rattle.dispatch_room_journal.specs.JournalRecords.{answer_text, message_text}
@@ -32,7 +32,7 @@ use Rattle.dispatch_room_journal.specs.Replays.{DigitsOf, IsReplay, LeadsDialogu
 -- equally, and end equal
 abbrev pub IsOneReplay : Type 0
 IsOneReplay =
-    (step : Step) (setting : Setting) (digest_of : DigitsOf) (terminals : List Terminal)
+    (step : Step) (setting : HttpSettings) (digest_of : DigitsOf) (terminals : List Terminal)
     (held after other : Room) (ts us : List Turn)
     → All IsTurn ts → All IsTurn us → All IsReplayed ts → All IsReplayed us
     → entries_of ts ≡ entries_of us
@@ -43,7 +43,7 @@ IsOneReplay =
 -- the same where each message is played as soon as it is whole
 abbrev pub IsOneAnswering : Type 0
 IsOneAnswering =
-    (step : Step) (setting : Setting) (digest_of : DigitsOf) (terminals : List Terminal)
+    (step : Step) (setting : HttpSettings) (digest_of : DigitsOf) (terminals : List Terminal)
     (held after other : Room) (ts us : List Turn)
     → All IsTurn ts → All IsTurn us → All IsPlayed ts → All IsPlayed us
     → entries_of ts ≡ entries_of us
@@ -54,7 +54,7 @@ IsOneAnswering =
 -- a replay to the dispatch machine is a run, which keeps the room's promises
 abbrev pub IsKept : Type 0
 IsKept =
-    (setting : Setting) (digest_of : DigitsOf) (terminals : List Terminal) (held after : Room)
+    (setting : HttpSettings) (digest_of : DigitsOf) (terminals : List Terminal) (held after : Room)
     (ts : List Turn)
     → AreTerminals held terminals → IsWellFormed held
     → IsReplay machine setting digest_of terminals held ts after
@@ -74,7 +74,7 @@ answers_to_messages ((refused r head_only, at) ∷ outs) (response ∷ answers) 
 -- the answers that were given, and leads to an equal room
 abbrev pub IsTheRoom : Type 0
 IsTheRoom =
-    (step : Step) (setting : Setting) (digest_of : DigitsOf) (terminals : List Terminal)
+    (step : Step) (setting : HttpSettings) (digest_of : DigitsOf) (terminals : List Terminal)
     (held after other : Room) (outs : List Timed) (answers : List (List ℕ)) (text : List ℕ)
     (ts : List Turn)
     → AreReplies step setting terminals held outs answers after
@@ -98,7 +98,7 @@ module _ {M : Type 0} (step : Step) (digest_of : DigitsOf) (is_trusted : M → T
   -- What a replay gives of a list of turns that can be replayed, up to a moment, whatever keeps the
   -- room: these turns were done, so the answers are theirs, and it can have been no others, and the
   -- room is this one. Or it stopped, and that is excused.
-  abbrev pub GivesThese : Setting → List Terminal → Room → Room → List Turn → List Turn → Option ℕ
+  abbrev pub GivesThese : HttpSettings → List Terminal → Room → Room → List Turn → List Turn → Option ℕ
       → Type 0
   GivesThese setting terminals held after ts us until =
       (old new : M) (read_failed : Bool) (result : Result Replayed Stopped)
@@ -117,7 +117,7 @@ module _ {M : Type 0} (step : Step) (digest_of : DigitsOf) (is_trusted : M → T
   -- a list that can be replayed to a room is replayed to it, wholly
   abbrev pub IsWhole : Type 0
   IsWhole =
-      (setting : Setting) (terminals : List Terminal) (held after : Room) (ts : List Turn)
+      (setting : HttpSettings) (terminals : List Terminal) (held after : Room) (ts : List Turn)
       → All IsTurn ts → All IsReplayed ts → All IsEntry (entries_of ts) → (ts ≡ []) ⊎ IsBegun ts
       → IsReplay step setting digest_of terminals held ts after
       → GivesThese setting terminals held after ts ts None
@@ -125,7 +125,7 @@ module _ {M : Type 0} (step : Step) (digest_of : DigitsOf) (is_trusted : M → T
   -- so it is up to a moment: the first turns, where the others begin with a message after it
   abbrev pub IsWholeUpTo : Type 0
   IsWholeUpTo =
-      (setting : Setting) (terminals : List Terminal) (held then after : Room) (us vs : List Turn)
+      (setting : HttpSettings) (terminals : List Terminal) (held then after : Room) (us vs : List Turn)
       → All IsTurn (us ++ vs) → All IsReplayed (us ++ vs) → All IsEntry (entries_of (us ++ vs))
       → (us ++ vs ≡ []) ⊎ IsBegun (us ++ vs)
       → IsReplay step setting digest_of terminals held us then

@@ -5,7 +5,7 @@ use Rattle.std.specs.Prelude.{Err}
 use Rattle.std.specs.Io.KnownBytes.{Consumes, Keeps, IsAtEnd}
 use Rattle.room_types.specs.declared.fleet.Terminal.{Terminal}
 use Rattle.room_model.specs.Room.{Room}
-use Rattle.room_http.specs.declared.settings.Setting.{Setting}
+use Rattle.room_http.specs.declared.settings.HttpSettings.{HttpSettings}
 use Rattle.room_model.specs.Rooms.{Step}
 use Rattle.room_http.specs.Dialogues.{IsReplyTo}
 use Rattle.room_http.specs.KeptMessages.{Unmoved}
@@ -47,7 +47,7 @@ HasItsHead digest_of trusted stood rest =
     → IsAt digest_of trusted stood head
 
 -- The bytes are one message, and the room answered it; or nothing was done, and why.
-abbrev pub Plays : {A : Type 0} → Step → Setting → Type 0 → (List Terminal → Room → Type 0)
+abbrev pub Plays : {A : Type 0} → Step → HttpSettings → Type 0 → (List Terminal → Room → Type 0)
     → (List Terminal → Room → Type 0) → ℕ → List ℕ → Result (Vec ℕ A) ReplayFault → Type 0
 Plays step setting trusted stood stands at sent (Ok response) =
     (p : Play) × (p.at ≡ at) × (p.sent ≡ sent) × (p.response ≡ response.items) × IsPlay p
@@ -63,7 +63,7 @@ IsMark (room head) = ⊤
 IsMark (message at sent) = ⊥
 IsMark (answer status) = ⊤
 
-module _ (step : Step) (setting : Setting) (digest_of : DigitsOf) (trusted : Type 0)
+module _ (step : Step) (setting : HttpSettings) (digest_of : DigitsOf) (trusted : Type 0)
     (stood stands : List Terminal → Room → Type 0) where
   -- a turn of the message and of the entries that it takes with it
   pub record TurnOf (at : ℕ) (sent : List ℕ) (taken : List Entry) (left_out : Bool) : Type 0 where
@@ -210,7 +210,7 @@ pub record IsProgress (progress : Progress) (ts : List Turn) : Type 0 where
 abbrev pub Progresses : Progress → Progress → List Turn → Type 0
 Progresses old new ts = (us : List Turn) → IsProgress old us → IsProgress new (us ++ ts)
 
-module _ (step : Step) (setting : Setting) (digest_of : DigitsOf) (trusted : Type 0)
+module _ (step : Step) (setting : HttpSettings) (digest_of : DigitsOf) (trusted : Type 0)
     (stood stands : List Terminal → Room → Type 0) (before after : Option (List ℕ))
     (until : Option ℕ) where
   -- turns of this kind, from the text before to the text after

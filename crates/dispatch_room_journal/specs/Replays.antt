@@ -3,7 +3,7 @@ use Rattle.std.specs.Prelude.{◌≡◌, ◌⊎◌, ℕ, ◌+◌, ◌-◌, ◌^�
 use Rattle.std.specs.Prelude.{count_by, Bool, true, false, Option, Some, None, Result, Ok, Err}
 use Rattle.room_types.specs.declared.fleet.Terminal.{Terminal}
 use Rattle.room_model.specs.Room.{Room}
-use Rattle.room_http.specs.declared.settings.Setting.{Setting}
+use Rattle.room_http.specs.declared.settings.HttpSettings.{HttpSettings}
 pub use Rattle.room_model.specs.Digests.{DigitsOf, IsHeadOf, digits_of}
 use Rattle.room_model.specs.Rooms.{Step}
 use Rattle.room_http.specs.Arrivals.{message as arrived}
@@ -28,7 +28,7 @@ use Rattle.dispatch_room_journal.specs.ReplayedTurns.{ends_unanswered, IsReplaye
 use Rattle.dispatch_room_journal.specs.ReplayedTurns.{BeginsWith, AreTurns, EndsAt}
 use Rattle.dispatch_room_journal.specs.ReplayFaults.{Explains, IsDueTo}
 
-module _ (step : Step) (setting : Setting) (digest_of : DigitsOf) (terminals : List Terminal) where
+module _ (step : Step) (setting : HttpSettings) (digest_of : DigitsOf) (terminals : List Terminal) where
   -- the room after a message, and its answer
   abbrev pub Answers : Room → Play → Room → Type 0
   Answers room p after = IsReplyTo step setting terminals room (timed p) after p.response
@@ -49,7 +49,7 @@ module _ (step : Step) (setting : Setting) (digest_of : DigitsOf) (terminals : L
 
 -- Where the room is kept by what gives back what was written: the turns lead from the room that it
 -- stood for to the one that it stands for now.
-abbrev pub Leads : Step → Setting → DigitsOf → Type 0 → (List Terminal → Room → Type 0)
+abbrev pub Leads : Step → HttpSettings → DigitsOf → Type 0 → (List Terminal → Room → Type 0)
     → (List Terminal → Room → Type 0) → List Turn → Type 0
 Leads step setting digest_of trusted stood stands ts =
     trusted → (terminals : List Terminal) (room : Room) → stood terminals room
@@ -57,7 +57,7 @@ Leads step setting digest_of trusted stood stands ts =
     × stands terminals after
 
 -- where a head stands next, the turns lead to a room that has its digest
-abbrev pub MeetsHead : Step → Setting → DigitsOf → Type 0 → (List Terminal → Room → Type 0)
+abbrev pub MeetsHead : Step → HttpSettings → DigitsOf → Type 0 → (List Terminal → Room → Type 0)
     → List Turn → List ℕ → Type 0
 MeetsHead step setting digest_of trusted stood ts rest =
     (head : Head) (more : List ℕ) → Begins rest (entry.room head) more
@@ -66,7 +66,7 @@ MeetsHead step setting digest_of trusted stood ts rest =
     × (IsHeadOf digest_of head terminals after)
 
 -- an open message would lead a room to another digest than this head gives, if there is one
-abbrev pub WouldMiss : Step → Setting → DigitsOf → List Terminal → Room → Option Open → Head
+abbrev pub WouldMiss : Step → HttpSettings → DigitsOf → List Terminal → Room → Option Open → Head
     → Type 0
 WouldMiss step setting digest_of terminals room None head = ⊤
 WouldMiss step setting digest_of terminals room (Some open_) head =
@@ -75,7 +75,7 @@ WouldMiss step setting digest_of terminals room (Some open_) head =
 
 -- The same, to a room that has another digest than this head gives, and would have another one
 -- after an open message, if there is one. That message was not done.
-abbrev pub LeadsElsewhere : Step → Setting → DigitsOf → Type 0 → (List Terminal → Room → Type 0)
+abbrev pub LeadsElsewhere : Step → HttpSettings → DigitsOf → Type 0 → (List Terminal → Room → Type 0)
     → (List Terminal → Room → Type 0) → List Turn → Option Open → Head → Type 0
 LeadsElsewhere step setting digest_of trusted stood stands ts open_ head =
     trusted → (terminals : List Terminal) (room : Room) → stood terminals room
@@ -84,7 +84,7 @@ LeadsElsewhere step setting digest_of trusted stood stands ts open_ head =
     × WouldMiss step setting digest_of terminals after open_ head × stands terminals after
 
 -- as `Leads`, and what is played is a dialogue
-abbrev pub LeadsDialogue : Step → Setting → DigitsOf → Type 0 → (List Terminal → Room → Type 0)
+abbrev pub LeadsDialogue : Step → HttpSettings → DigitsOf → Type 0 → (List Terminal → Room → Type 0)
     → (List Terminal → Room → Type 0) → List Turn → Type 0
 LeadsDialogue step setting digest_of trusted stood stands ts =
     trusted → (terminals : List Terminal) (room : Room) → stood terminals room
@@ -92,7 +92,7 @@ LeadsDialogue step setting digest_of trusted stood stands ts =
     × IsDialogue step setting terminals room (arrivals_of ts) after (bytes_of ts)
     × stands terminals after
 
-module _ (step : Step) (setting : Setting) (digest_of : DigitsOf) (trusted : Type 0)
+module _ (step : Step) (setting : HttpSettings) (digest_of : DigitsOf) (trusted : Type 0)
     (stood stands : List Terminal → Room → Type 0) (left : Option (List ℕ)) (until : Option ℕ) where
   -- Why it stopped, after turns of this kind that were done with. One more message may have been
   -- played and not compared (`last`). No status stands after a message that was done with without

@@ -37,6 +37,22 @@
 //! not the one that comes next: all that a list says, over the rows in it, or one leg after
 //! another, each up to the next row, and the rows between them. `put_record` writes a record, and
 //! `verify` looks a whole list through.
+//!
+//! Why it is so. Two rooms that are asked the same at the same moments are one room, so a list of
+//! messages is a copy of a room, and a way to look back. A message is kept before the room acts on
+//! it, and its status before the answer is written. Were it the other way round, a stop could
+//! leave a room that no list leads to. A replay compares only statuses, as the bytes are the
+//! machine's by proof.
+//!
+//! What holds. A text is the text of one list only. Equal rooms that replay it answer and end
+//! alike. A replay leads to the room that was served, if each message that changes a room changes
+//! its digest. A check covers its record and all before it.
+//!
+//! Traps. A message without a status was done or was not, and only the next part's digest shows
+//! which; at the list's end nobody was answered, and it is left out. A check names where a list
+//! changed, and not what stood there. Sizes stand outside the checks, so that lists already
+//! written are read. After a power cut a list may end within a record: only the beginning of one
+//! is cut off, and it is set aside first.
 #![tactic(auto)]
 
 pub mod answer_frames;

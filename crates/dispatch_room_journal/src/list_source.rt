@@ -16,7 +16,7 @@ ghost use Rattle.dispatch_room_journal.specs.declared.read_progress.Reach.TheVar
 ghost use Rattle.dispatch_room_journal.specs.declared.read_progress.Mode.TheVariants.{Chain};
 ghost use Rattle.dispatch_room_journal.specs.declared.row_runs.Behind.TheVariants.{Unread};
 
-use crate::read_progress::{Mode, Reach, Reel, Step};
+use crate::read_progress::{JournalCursor, Mode, Reach, Step};
 use crate::record_fronts::Link;
 use crate::row_runs::{Behind, RowsFault, take_run};
 use room_http_messages::sources::{ReadFailed, Source};
@@ -27,28 +27,28 @@ use room_http_messages::sources::{ReadFailed, Source};
 #[derive(Drop)]
 pub struct ListSource<R> {
     reader: R,
-    reel: Reel,
+    cursor: JournalCursor,
     has_ended: bool,
     // The number of the rows that were passed over. As many as this counts are too many.
     passed: u64,
     ghost fits: { passed ≤ most_rows },
     // By legs none are, so nothing but a read of the list fails.
-    ghost legs: { reach_of reel.mode ≡ Leg → passed ≡ 0 },
+    ghost legs: { reach_of cursor.mode ≡ Leg → passed ≡ 0 },
 }
 
 impl<R: Source> ListSource<R> {
     /// All that a list says of which nothing was read.
     pub fn new(reader: R) -> ListSource<R>
-        ensures left { left_in result.reel.mode result.reel.vouched result.reel.inbox
+        ensures left { left_in result.cursor.mode result.cursor.vouched result.cursor.inbox
             (R.left result.reader) ≡ option_map (list_says sha256_digits Full) (R.left reader) }
         ensures reader { result.reader ≡ reader }
         ensures fresh { result.has_ended ≡ false }
         ensures none { result.passed ≡ 0 }
-        ensures reach { reach_of result.reel.mode ≡ Full }
+        ensures reach { reach_of result.cursor.mode ≡ Full }
     {
         ListSource {
             reader,
-            reel: Reel::new(Reach::Full),
+            cursor: JournalCursor::new(Reach::Full),
             has_ended: false,
             passed: 0,
         }
@@ -56,16 +56,16 @@ impl<R: Source> ListSource<R> {
 
     /// The first leg of a list of which nothing was read.
     pub fn by_legs(reader: R) -> ListSource<R>
-        ensures left { left_in result.reel.mode result.reel.vouched result.reel.inbox
+        ensures left { left_in result.cursor.mode result.cursor.vouched result.cursor.inbox
             (R.left result.reader) ≡ option_map (list_says sha256_digits Leg) (R.left reader) }
         ensures reader { result.reader ≡ reader }
         ensures fresh { result.has_ended ≡ false }
         ensures none { result.passed ≡ 0 }
-        ensures reach { reach_of result.reel.mode ≡ Leg }
+        ensures reach { reach_of result.cursor.mode ≡ Leg }
     {
         ListSource {
             reader,
-            reel: Reel::new(Reach::Leg),
+            cursor: JournalCursor::new(Reach::Leg),
             has_ended: false,
             passed: 0,
         }
@@ -80,9 +80,9 @@ impl<R: Source> ListSource<R> {
 
     /// Whether the last record that was read says that the list ended well.
     pub fn ended_well(&self) -> bool
-        ensures { result ≡ ends_well self.now.reel.mode }
+        ensures { result ≡ ends_well self.now.cursor.mode }
     {
-        match self.reel.mode {
+        match self.cursor.mode {
             Mode::Chain(_, link) => link.has_ended,
             Mode::Fresh(_) | Mode::Plain(_) | Mode::Done(_) => false,
         }
@@ -95,24 +95,24 @@ impl<R: Source> ListSource<R> {
         ensures failed { (R.has_failed self.new.reader || self.new.passed == most_rows)
             ≡ is_read result }
         ensures same { self.new.passed ≡ self.old.passed }
-        ensures reach { reach_of self.new.reel.mode ≡ reach_of self.old.reel.mode }
+        ensures reach { reach_of self.new.cursor.mode ≡ reach_of self.old.cursor.mode }
         ensures unread { self.old.has_ended ≡ false
             → (result ≡ Ok Unread) × (self.new ≡ self.old) × (rows.new ≡ rows.old) }
-        ensures given { 0 < self.old.reel.vouched
+        ensures given { 0 < self.old.cursor.vouched
             → (result ≡ Ok Unread) × (self.new ≡ self.old) × (rows.new ≡ rows.old) }
-        ensures taken { self.old.has_ended ≡ true → self.old.reel.vouched ≡ 0
-            → (self.new.reel.vouched ≡ 0) × IfOk result (TakesIn self.old.reel.mode
-            self.new.reel.mode (prepend_known self.old.reel.inbox (R.left self.old.reader))
-            (prepend_known self.new.reel.inbox (R.left self.new.reader))
+        ensures taken { self.old.has_ended ≡ true → self.old.cursor.vouched ≡ 0
+            → (self.new.cursor.vouched ≡ 0) × IfOk result (TakesIn self.old.cursor.mode
+            self.new.cursor.mode (prepend_known self.old.cursor.inbox (R.left self.old.reader))
+            (prepend_known self.new.cursor.inbox (R.left self.new.reader))
             rows.old.items rows.new.items) }
     {
         if !self.has_ended {
             return Ok(Behind::Unread);
         }
-        if 0 < self.reel.vouched {
+        if 0 < self.cursor.vouched {
             return Ok(Behind::Unread);
         }
-        match self.reel.mode {
+        match self.cursor.mode {
             Mode::Chain(Reach::Leg, link) => self.take_behind(&link, rows),
             Mode::Chain(Reach::Full, _) => Ok(Behind::End),
             Mode::Fresh(_) => Ok(Behind::End),
@@ -124,27 +124,27 @@ impl<R: Source> ListSource<R> {
     // Takes the rows that stand next, and goes on behind them.
     fn take_behind(&mut self, link: &Link, rows: &mut Vec<u8>) -> Result<Behind, RowsFault>
         requires sound { (R.has_failed self.old.reader || self.old.passed == most_rows) ≡ false }
-        requires none { self.old.reel.vouched ≡ 0 }
-        requires mode { self.old.reel.mode ≡ Chain Leg link.now }
+        requires none { self.old.cursor.vouched ≡ 0 }
+        requires mode { self.old.cursor.mode ≡ Chain Leg link.now }
         ensures failed { (R.has_failed self.new.reader || self.new.passed == most_rows)
             ≡ is_read result }
         ensures same { self.new.passed ≡ self.old.passed }
-        ensures reach { reach_of self.new.reel.mode ≡ Leg }
-        ensures none { self.new.reel.vouched ≡ 0 }
-        ensures taken { IfOk result (TakesIn (Chain Leg link.now) self.new.reel.mode
-            (prepend_known self.old.reel.inbox (R.left self.old.reader))
-            (prepend_known self.new.reel.inbox (R.left self.new.reader))
+        ensures reach { reach_of self.new.cursor.mode ≡ Leg }
+        ensures none { self.new.cursor.vouched ≡ 0 }
+        ensures taken { IfOk result (TakesIn (Chain Leg link.now) self.new.cursor.mode
+            (prepend_known self.old.cursor.inbox (R.left self.old.reader))
+            (prepend_known self.new.cursor.inbox (R.left self.new.reader))
             rows.old.items rows.new.items) }
     {
         let mut next = *link;
-        match take_run(&mut self.reel.inbox, &mut self.reader, &mut next, rows) {
+        match take_run(&mut self.cursor.inbox, &mut self.reader, &mut next, rows) {
             Ok(behind) => {
-                self.reel.mode = Mode::Chain(Reach::Leg, next);
+                self.cursor.mode = Mode::Chain(Reach::Leg, next);
                 self.has_ended = false;
                 Ok(behind)
             }
             Err(fault) => {
-                self.reel.mode = Mode::Done(Reach::Leg);
+                self.cursor.mode = Mode::Done(Reach::Leg);
                 Err(fault)
             }
         }
@@ -152,56 +152,56 @@ impl<R: Source> ListSource<R> {
 
     // One read, where more is needed.
     fn read_on(&mut self) -> Result<Step, ReadFailed>
-        requires none { self.old.reel.vouched ≡ 0 }
-        requires room { length self.old.reel.inbox < RECORD_ROOM }
-        requires last { rest_of self.old.reel.mode self.old.reel.inbox
-            ≡ last_of self.old.reel.mode self.old.reel.inbox }
+        requires none { self.old.cursor.vouched ≡ 0 }
+        requires room { length self.old.cursor.inbox < RECORD_ROOM }
+        requires last { rest_of self.old.cursor.mode self.old.cursor.inbox
+            ≡ last_of self.old.cursor.mode self.old.cursor.inbox }
         ensures failed { R.has_failed self.new.reader
             ≡ (R.has_failed self.old.reader || is_err result) }
         ensures ended { self.new.has_ended ≡ self.old.has_ended }
         ensures rows { rows_of result ≡ 0 }
         ensures passed { self.new.passed ≡ self.old.passed }
-        ensures reach { reach_of self.new.reel.mode ≡ reach_of self.old.reel.mode }
-        ensures counts { PassesRows (prepend_known self.old.reel.inbox (R.left self.old.reader))
-            (prepend_known self.new.reel.inbox (R.left self.new.reader))
+        ensures reach { reach_of self.new.cursor.mode ≡ reach_of self.old.cursor.mode }
+        ensures counts { PassesRows (prepend_known self.old.cursor.inbox (R.left self.old.reader))
+            (prepend_known self.new.cursor.inbox (R.left self.new.reader))
             self.old.passed self.new.passed }
         ensures step { Advances
-            (left_to self.old.reel (R.left self.old.reader))
-            (left_to self.new.reel (R.left self.new.reader))
-            (left_in (done_of self.new.reel.mode) self.new.reel.vouched self.new.reel.inbox
+            (left_to self.old.cursor (R.left self.old.reader))
+            (left_to self.new.cursor (R.left self.new.reader))
+            (left_in (done_of self.new.cursor.mode) self.new.cursor.vouched self.new.cursor.inbox
             (R.left self.new.reader))
-            (Nearer self.old.reel.mode self.old.reel.inbox self.new.reel.mode
-            self.new.reel.vouched (length self.new.reel.inbox)) result }
+            (Nearer self.old.cursor.mode self.old.cursor.inbox self.new.cursor.mode
+            self.new.cursor.vouched (length self.new.cursor.inbox)) result }
     {
-        match self.reel.inbox.fill(&mut self.reader) {
+        match self.cursor.inbox.fill(&mut self.reader) {
             Err(failed) => Err(failed),
-            Ok(0) => Ok(self.reel.finish()),
+            Ok(0) => Ok(self.cursor.finish()),
             Ok(_) => Ok(Step::Moved),
         }
     }
 
     // A step, and a read where one is needed. A row that is passed over is counted.
     fn advance(&mut self) -> Result<Step, ReadFailed>
-        requires none { self.old.reel.vouched ≡ 0 }
+        requires none { self.old.cursor.vouched ≡ 0 }
         requires counts { self.old.passed < most_rows }
         ensures failed { R.has_failed self.new.reader
             ≡ (R.has_failed self.old.reader || is_err result) }
         ensures ended { self.new.has_ended ≡ self.old.has_ended }
-        ensures rows { rows_of result ≡ rows_next self.old.reel.mode self.old.reel.inbox }
+        ensures rows { rows_of result ≡ rows_next self.old.cursor.mode self.old.cursor.inbox }
         ensures passed { self.new.passed ≡ self.old.passed + rows_of result }
-        ensures reach { reach_of self.new.reel.mode ≡ reach_of self.old.reel.mode }
-        ensures counts { PassesRows (prepend_known self.old.reel.inbox (R.left self.old.reader))
-            (prepend_known self.new.reel.inbox (R.left self.new.reader))
+        ensures reach { reach_of self.new.cursor.mode ≡ reach_of self.old.cursor.mode }
+        ensures counts { PassesRows (prepend_known self.old.cursor.inbox (R.left self.old.reader))
+            (prepend_known self.new.cursor.inbox (R.left self.new.reader))
             self.old.passed self.new.passed }
         ensures step { Advances
-            (left_to self.old.reel (R.left self.old.reader))
-            (left_to self.new.reel (R.left self.new.reader))
-            (left_in (done_of self.new.reel.mode) self.new.reel.vouched self.new.reel.inbox
+            (left_to self.old.cursor (R.left self.old.reader))
+            (left_to self.new.cursor (R.left self.new.reader))
+            (left_in (done_of self.new.cursor.mode) self.new.cursor.vouched self.new.cursor.inbox
             (R.left self.new.reader))
-            (Nearer self.old.reel.mode self.old.reel.inbox self.new.reel.mode
-            self.new.reel.vouched (length self.new.reel.inbox)) result }
+            (Nearer self.old.cursor.mode self.old.cursor.inbox self.new.cursor.mode
+            self.new.cursor.vouched (length self.new.cursor.inbox)) result }
     {
-        match self.reel.step() {
+        match self.cursor.step() {
             Step::More => self.read_on(),
             Step::Moved => Ok(Step::Moved),
             Step::Passed => {
@@ -219,19 +219,19 @@ impl<R: Source> ListSource<R> {
         ensures failed { (R.has_failed self.new.reader || self.new.passed == most_rows)
             ≡ ((R.has_failed self.old.reader || self.old.passed == most_rows) || is_err result) }
         ensures ended { self.new.has_ended ≡ self.old.has_ended }
-        ensures reach { reach_of self.new.reel.mode ≡ reach_of self.old.reel.mode }
-        ensures counts { PassesRows (prepend_known self.old.reel.inbox (R.left self.old.reader))
-            (prepend_known self.new.reel.inbox (R.left self.new.reader))
+        ensures reach { reach_of self.new.cursor.mode ≡ reach_of self.old.cursor.mode }
+        ensures counts { PassesRows (prepend_known self.old.cursor.inbox (R.left self.old.reader))
+            (prepend_known self.new.cursor.inbox (R.left self.new.reader))
             self.old.passed self.new.passed }
         ensures step { Advances
-            (left_to self.old.reel (R.left self.old.reader))
-            (left_to self.new.reel (R.left self.new.reader))
-            (left_in (done_of self.new.reel.mode) self.new.reel.vouched self.new.reel.inbox
+            (left_to self.old.cursor (R.left self.old.reader))
+            (left_to self.new.cursor (R.left self.new.reader))
+            (left_in (done_of self.new.cursor.mode) self.new.cursor.vouched self.new.cursor.inbox
             (R.left self.new.reader))
-            (0 < self.new.reel.vouched) result }
+            (0 < self.new.cursor.vouched) result }
     {
         'steps: while self.passed < u64::MAX {
-            if 0 < self.reel.vouched {
+            if 0 < self.cursor.vouched {
                 return Ok(Step::Moved);
             }
             match self.advance() {
@@ -248,16 +248,16 @@ impl<R: Source> ListSource<R> {
     fn read_ready(&mut self, buf: &mut [u8]) -> Result<usize, ReadFailed>
         ensures bound { IfOk result (λ n. n ≤ length buf.new) }
         ensures bytes { ReadConsumes
-            (left_to self.old.reel (R.left self.old.reader))
-            (left_to self.new.reel (R.left self.new.reader))
+            (left_to self.old.cursor (R.left self.old.reader))
+            (left_to self.new.cursor (R.left self.new.reader))
             result buf.new }
         ensures failed { (R.has_failed self.new.reader || self.new.passed == most_rows)
             ≡ ((R.has_failed self.old.reader || self.old.passed == most_rows) || is_err result) }
         ensures ended { self.new.has_ended
             ≡ (self.old.has_ended || found_end result (length buf.new)) }
-        ensures reach { reach_of self.new.reel.mode ≡ reach_of self.old.reel.mode }
-        ensures counts { PassesRows (prepend_known self.old.reel.inbox (R.left self.old.reader))
-            (prepend_known self.new.reel.inbox (R.left self.new.reader))
+        ensures reach { reach_of self.new.cursor.mode ≡ reach_of self.old.cursor.mode }
+        ensures counts { PassesRows (prepend_known self.old.cursor.inbox (R.left self.old.reader))
+            (prepend_known self.new.cursor.inbox (R.left self.new.reader))
             self.old.passed self.new.passed }
     {
         if buf.is_empty() {
@@ -266,7 +266,7 @@ impl<R: Source> ListSource<R> {
         match self.ready() {
             Err(failed) => Err(failed),
             Ok(Step::Wrong) => {
-                self.reel.mode = Mode::Done(self.reel.mode.reach());
+                self.cursor.mode = Mode::Done(self.cursor.mode.reach());
                 buf[0] = 0;
                 Ok(1)
             }
@@ -274,13 +274,13 @@ impl<R: Source> ListSource<R> {
                 self.has_ended = true;
                 Ok(0)
             }
-            Ok(_) => Ok(self.reel.give(buf)),
+            Ok(_) => Ok(self.cursor.give(buf)),
         }
     }
 }
 
 impl<R: Source> Source for ListSource<R> {
-    ghost left = { λ list. left_in list.reel.mode list.reel.vouched list.reel.inbox
+    ghost left = { λ list. left_in list.cursor.mode list.cursor.vouched list.cursor.inbox
         (R.left list.reader) };
 
     ghost reads = { λ _. None };

@@ -23,7 +23,7 @@ pub struct Tally {
 
 /// Where a text is no list, and why.
 #[derive(Clone, Copy)]
-pub struct Flaw {
+pub struct Defect {
     pub fault: EntryFault,
     /// The message at which it is, from 1.
     pub number: u64,
@@ -58,10 +58,10 @@ impl Tally {
     }
 
     /// Where what came is followed by none.
-    pub fn flaw(&self, fault: EntryFault) -> Flaw
+    pub fn defect(&self, fault: EntryFault) -> Defect
         ensures { result ≡ record { fault = fault; number = min (self.now.messages + 1) u64.MAX } }
     {
-        Flaw {
+        Defect {
             fault,
             number: self.messages.saturating_add(1),
         }

@@ -44,7 +44,7 @@ pub enum Step {
 /// How far a list was read: the bytes that were read, and how many of those at the front may be
 /// given.
 #[derive(Drop)]
-pub struct Reel {
+pub struct JournalCursor {
     pub inbox: RecordInbox,
     pub mode: Mode,
     pub vouched: usize,

@@ -9,7 +9,7 @@ ghost use Rattle.dispatch_room_journal.specs.declared.record_headers.TheConstant
 ghost use Rattle.dispatch_room_journal.specs.declared.read_progress.Mode.TheVariants.{Chain, Fresh};
 ghost use Rattle.dispatch_room_journal.specs.declared.read_progress.Mode.TheVariants.{Plain};
 
-use crate::read_progress::{Mode, Reach, Reel, Step};
+use crate::read_progress::{JournalCursor, Mode, Reach, Step};
 use crate::record_fronts::{
     FIRST_LINK, Front, Link, OPENING, body_of, is_end, is_no_entry, is_row, look_at,
 };
@@ -28,12 +28,12 @@ impl Mode {
     }
 }
 
-impl Reel {
+impl JournalCursor {
     /// A list of which nothing was read, and which is to be read so far.
-    pub fn new(reach: Reach) -> Reel
+    pub fn new(reach: Reach) -> JournalCursor
         ensures { (result.mode ≡ Fresh reach) × (result.vouched ≡ 0) × (result.inbox ≡ []) }
     {
-        Reel {
+        JournalCursor {
             inbox: RecordInbox::new(),
             mode: Mode::Fresh(reach),
             vouched: 0,

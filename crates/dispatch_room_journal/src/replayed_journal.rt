@@ -14,7 +14,7 @@ use crate::next_entry::{Next, next_entry};
 use crate::replay_faults::{ReplayFault, Stopped};
 use crate::replay_progress::Progress;
 use room_http::handlers::Handler;
-use room_http::settings::Setting;
+use room_http::settings::HttpSettings;
 use room_http_messages::sources::Source;
 use room_model::digests::Digested;
 use room_types::numbers::Moment;
@@ -38,7 +38,7 @@ pub fn replay<R: Source, M: Digested>(
     alloc: Global,
     reader: &mut R,
     room: &mut M,
-    setting: &Setting,
+    setting: &HttpSettings,
     until: &Option<Moment>,
 ) -> Result<Replayed, Stopped>
     requires reader { R.has_failed reader.old ≡ false }

@@ -18,7 +18,7 @@ use crate::replay_faults::{ReplayFault, Stopped};
 use crate::replay_progress::Progress;
 use crate::replayed_journal::{memory, stopped};
 use room_http::handlers::Handler;
-use room_http::settings::Setting;
+use room_http::settings::HttpSettings;
 use room_http_messages::sources::Source;
 use room_model::digests::Digested;
 use std::alloc::Global;
@@ -187,7 +187,7 @@ pub fn answer_each<R: Source, O: Write, M: Digested>(
     reader: &mut R,
     writer: &mut AnswerWriter<'_, O>,
     room: &mut M,
-    setting: &Setting,
+    setting: &HttpSettings,
 ) -> Result<u64, Stopped>
     requires reader { R.has_failed reader.old ≡ false }
     requires writer { writer.old.failed ≡ false }

@@ -4,12 +4,12 @@ ghost use Rattle.dispatch_room_journal.specs.ListTallies.{IsFlawed, IsVerified};
 
 use crate::entry_reader::{EntryFault, read_entry};
 use crate::journal_inbox::JournalInbox;
-use crate::list_tallies::{Flaw, Tally};
+use crate::list_tallies::{Defect, Tally};
 use room_http_messages::sources::Source;
 
 /// What a list holds, read by an inbox that is new: `None` where nothing was begun; or where it is
 /// no list.
-pub fn verify<R: Source>(inbox: &mut JournalInbox, list: &mut R) -> Result<Option<Tally>, Flaw>
+pub fn verify<R: Source>(inbox: &mut JournalInbox, list: &mut R) -> Result<Option<Tally>, Defect>
     requires sound { R.has_failed list.old ≡ false }
     requires kept { inbox.old.kept ≡ [] }
     requires taken { inbox.old.taken ≡ 0 }
@@ -29,8 +29,8 @@ pub fn verify<R: Source>(inbox: &mut JournalInbox, list: &mut R) -> Result<Optio
                 }
                 return Ok(Some(tally));
             }
-            Err(fault) => return Err(tally.flaw(fault)),
+            Err(fault) => return Err(tally.defect(fault)),
         }
     }
-    Err(tally.flaw(EntryFault::Read))
+    Err(tally.defect(EntryFault::Read))
 }

@@ -9,8 +9,8 @@ use Rattle.sqlite_trees.specs.declared.store.Store.{Ghosts}
 use Rattle.room_http.specs.Settings.{IsSetting}
 use Rattle.room_model.specs.declared.digests.Head.{Head}
 use Rattle.room_store.specs.declared.store.Store.{Store}
-use Rattle.dispatch_room_cli.specs.declared.exit_status.Done.{Done}
-use Rattle.dispatch_room_cli.specs.declared.exit_status.Failure.{Failure}
+use Rattle.dispatch_room_exit.specs.declared.exit_status.Done.{Done}
+use Rattle.dispatch_room_exit.specs.declared.exit_status.Failure.{Failure}
 use Rattle.dispatch_room_cli.specs.declared.tasks.Replay.{Replay as How}
 use Rattle.dispatch_room_journal.specs.declared.list_source.ListSource.{ListSource}
 use Rattle.dispatch_room_journal.specs.Legs.{TakesIn}
@@ -228,10 +228,10 @@ so_many (Err e) P Q many = tt
 pub takes_behind : {R : Type 0} (left : R → Option (List ℕ)) (old new : ListSource R) (before rows : List ℕ)
     (taken : Result Behind RowsFault)
     → (old.has_ended ≡ false → (taken ≡ Ok behind.Unread) × IsUntouched old new × (rows ≡ before))
-    → (0 < old.reel.vouched → (taken ≡ Ok behind.Unread) × IsUntouched old new × (rows ≡ before))
-    → (old.has_ended ≡ true → old.reel.vouched ≡ 0
-    → IfOk taken (TakesIn old.reel.mode new.reel.mode (prepend_known old.reel.inbox (left old.reader))
-    (prepend_known new.reel.inbox (left new.reader)) before rows))
+    → (0 < old.cursor.vouched → (taken ≡ Ok behind.Unread) × IsUntouched old new × (rows ≡ before))
+    → (old.has_ended ≡ true → old.cursor.vouched ≡ 0
+    → IfOk taken (TakesIn old.cursor.mode new.cursor.mode (prepend_known old.cursor.inbox (left old.reader))
+    (prepend_known new.cursor.inbox (left new.reader)) before rows))
     → IfOk taken (TakesBehind left old new before rows)
 takes_behind left old new before rows (Ok which) unread given takes = (
   λ no. let is = unread no in (cc is.0, is.1, is.2),

@@ -2,8 +2,8 @@
 use Rattle.std.proofs.Common.{inl, inr, refl, ◌≡◌, ◌⊎◌}
 use Rattle.room_types.specs.declared.refusal_statuses.Refusal.{Refusal}
 use Rattle.room_model.specs.Rooms.{IsUnavailable}
-use Rattle.dispatch_room_cli.specs.ExitStatus.{refused}
-use Rattle.dispatch_room_cli.specs.declared.exit_status.Failure.TheVariants.{Memory, Storage}
+use Rattle.dispatch_room_exit.specs.ExitStatus.{refused}
+use Rattle.dispatch_room_exit.specs.declared.exit_status.Failure.TheVariants.{Memory, Storage}
 
 -- a store refuses for memory or for storage only
 pub refused_by : (refusal : Refusal) → IsUnavailable refusal

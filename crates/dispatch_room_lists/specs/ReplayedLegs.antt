@@ -8,11 +8,11 @@ use Rattle.room_types.specs.declared.refusal_statuses.Refusal.TheVariants.{Memor
 use Rattle.room_model.specs.Rooms.{machine}
 use Rattle.room_model.specs.declared.digests.Head.{Head}
 use Rattle.room_http.specs.Settings.{IsSetting}
-use Rattle.room_http.specs.declared.settings.Setting.{Setting}
+use Rattle.room_http.specs.declared.settings.HttpSettings.{HttpSettings}
 use Rattle.room_store.specs.StoredRoom.{IsReady, IsRoom}
 use Rattle.room_store.specs.declared.store.Store.{Store}
 use Rattle.dispatch_room_cli.specs.declared.tasks.Replay.{Replay as How}
-use Rattle.dispatch_room_cli.specs.declared.exit_status.Failure.{Failure}
+use Rattle.dispatch_room_exit.specs.declared.exit_status.Failure.{Failure}
 use Rattle.dispatch_room_journal.specs.AnswerFrames.{AnswersEach}
 use Rattle.dispatch_room_journal.specs.Legs.{TakesIn}
 use Rattle.dispatch_room_journal.specs.ReadSteps.{left_in}
@@ -33,20 +33,20 @@ use Rattle.room_tables_schema.specs.FileConnections.{IsClean}
 -- leg, what is written so far, and how many messages came in the legs before
 pub record Waypoint (S : Type 0) : Type 0 where
   pub store : Store S
-  pub setting : Setting
+  pub setting : HttpSettings
   pub left : Option (List ℕ)
   pub held : Option (List ℕ)
   pub messages : ℕ
 
 -- where the first leg of a list begins
-abbrev pub begins_leg : {S : Type 0} → Store S → Setting → Option (List ℕ) → Option (List ℕ)
+abbrev pub begins_leg : {S : Type 0} → Store S → HttpSettings → Option (List ℕ) → Option (List ℕ)
     → Waypoint S
 begins_leg store setting list held =
     record { store = store; setting = setting; left = list; held = held; messages = 0 }
 
 -- what is left of the leg of a list that is read next, by what is left of its source
 abbrev pub left_of : {R : Type 0} → (R → Option (List ℕ)) → ListSource R → Option (List ℕ)
-left_of left list = left_in list.reel.mode list.reel.vouched list.reel.inbox (left list.reader)
+left_of left list = left_in list.cursor.mode list.cursor.vouched list.cursor.inbox (left list.reader)
 
 -- how many messages were answered, or why it stopped
 abbrev pub count_in : Result Replayed Stopped → Result ℕ Stopped
@@ -67,7 +67,7 @@ in_all before (Err stopped) =
 -- ---- what stands behind a leg
 -- nothing was read of the list
 abbrev pub IsUntouched : {R : Type 0} → ListSource R → ListSource R → Type 0
-IsUntouched old new = (new.reader ≡ old.reader) × (new.reel ≡ old.reel)
+IsUntouched old new = (new.reader ≡ old.reader) × (new.cursor ≡ old.cursor)
 
 module _ {R : Type 0} (left : R → Option (List ℕ)) where
   -- What stands behind a leg of a list was taken, and the lines of its rows were appended to
@@ -76,10 +76,10 @@ module _ {R : Type 0} (left : R → Option (List ℕ)) where
   abbrev pub TakesBehind : ListSource R → ListSource R → List ℕ → List ℕ → Behind → Type 0
   TakesBehind old new before rows which =
       (old.has_ended ≡ false → (which ≡ behind.Unread) × IsUntouched old new × (rows ≡ before))
-      × (0 < old.reel.vouched → (which ≡ behind.Unread) × IsUntouched old new × (rows ≡ before))
-      × (old.has_ended ≡ true → old.reel.vouched ≡ 0
-      → TakesIn old.reel.mode new.reel.mode (prepend_known old.reel.inbox (left old.reader))
-      (prepend_known new.reel.inbox (left new.reader)) before rows which)
+      × (0 < old.cursor.vouched → (which ≡ behind.Unread) × IsUntouched old new × (rows ≡ before))
+      × (old.has_ended ≡ true → old.cursor.vouched ≡ 0
+      → TakesIn old.cursor.mode new.cursor.mode (prepend_known old.cursor.inbox (left old.reader))
+      (prepend_known new.cursor.inbox (left new.reader)) before rows which)
 
 -- each leg is read to its end: no moment is given up to which it is replayed, or its messages are
 -- answered

@@ -2,19 +2,19 @@
 use Rattle.std.specs.Prelude.{Bool, Err, List, Ok, Option, Result, false, true, ℕ, ◌≡◌, None, codes}
 use Rattle.std.specs.Prelude.{decimal, ◌++◌}
 use Rattle.std.specs.Io.KnownBytes.{Appends}
-use Rattle.dispatch_room_cli.specs.ExitStatus.{refused}
-use Rattle.dispatch_room_cli.specs.declared.exit_status.Done.{Done}
-use Rattle.dispatch_room_cli.specs.declared.exit_status.Done.TheVariants.{Whole}
-use Rattle.dispatch_room_cli.specs.declared.exit_status.Failure.{Failure}
-use Rattle.dispatch_room_cli.specs.declared.exit_status.Failure.TheVariants.{Differs, Network}
-use Rattle.dispatch_room_cli.specs.declared.exit_status.Failure.TheVariants.{OtherRoom, Record}
+use Rattle.dispatch_room_exit.specs.ExitStatus.{refused}
+use Rattle.dispatch_room_exit.specs.declared.exit_status.Done.{Done}
+use Rattle.dispatch_room_exit.specs.declared.exit_status.Done.TheVariants.{Whole}
+use Rattle.dispatch_room_exit.specs.declared.exit_status.Failure.{Failure}
+use Rattle.dispatch_room_exit.specs.declared.exit_status.Failure.TheVariants.{Differs, Network}
+use Rattle.dispatch_room_exit.specs.declared.exit_status.Failure.TheVariants.{OtherRoom, Record}
 use Rattle.dispatch_room_journal.specs.declared.replay_faults.ReplayFault.{ReplayFault}
 use Rattle.dispatch_room_journal.specs.declared.replay_faults.ReplayFault.TheVariants as replay
 use Rattle.dispatch_room_journal.specs.declared.replay_faults.Stopped.{Stopped}
 use Rattle.sqlite.specs.Held.{Held}
 use Rattle.sqlite_trees.specs.declared.store.Store.{Ghosts}
 use Rattle.room_http.specs.Settings.{IsSetting}
-use Rattle.room_http.specs.declared.settings.Setting.{Setting}
+use Rattle.room_http.specs.declared.settings.HttpSettings.{HttpSettings}
 use Rattle.room_store.specs.StoredRoom.{IsReady}
 use Rattle.room_store.specs.declared.store.Store.{Store}
 use Rattle.dispatch_room_tasks.specs.OpenedRoom.{OpensRoom}
@@ -55,7 +55,7 @@ EndsAs (Err stopped) done = done ≡ Err (failure_of stopped)
 
 -- What is done with a list in a room: `first` is its store before and `last` after, and `setting`
 -- is that in which the first leg is answered.
-module _ {S : Type 0} (g : Ghosts S) (how : How) (first : Store S) (setting : Setting)
+module _ {S : Type 0} (g : Ghosts S) (how : How) (first : Store S) (setting : HttpSettings)
     (last : Store S) (list before after : Option (List ℕ)) (read_failed : Bool)
     (Stands : List ℕ → Behind → Option (List ℕ) → Type 0)
     (done : Result Done Failure) where
@@ -76,7 +76,7 @@ module _ {S : Type 0} (g : Ghosts S) (how : How) (first : Store S) (setting : Se
     pub ends : EndsAs (count_in result) done
 
 -- the one or the other is done, as it was asked, and the store is ready again
-pub record IsPlayed {S : Type 0} (g : Ghosts S) (how : How) (first : Store S) (setting : Setting)
+pub record IsPlayed {S : Type 0} (g : Ghosts S) (how : How) (first : Store S) (setting : HttpSettings)
     (last : Store S) (list before after : Option (List ℕ)) (read_failed : Bool)
     (Stands : List ℕ → Behind → Option (List ℕ) → Type 0)
     (done : Result Done Failure) : Type 0 where
@@ -97,7 +97,7 @@ pub record HasReplayedList {S : Type 0} (g : Ghosts S) (old new : Held S) (how :
     (done : Result Done Failure) : Type 0 where
   pub first : Store S
   pub last : Store S
-  pub setting : Setting
+  pub setting : HttpSettings
   pub opens : IsClean g first.conn → OpensRoom g old first
   pub is_set : IsSetting first.plan.zone how.history setting
   pub came : Result Done Failure
@@ -112,7 +112,7 @@ pub record HasReplayedList {S : Type 0} (g : Ghosts S) (old new : Held S) (how :
 
 -- Behind a leg of a list no room could be opened again, for this. If answers are asked for, those
 -- so far are written behind what the output held; otherwise nothing is printed.
-pub record LosesPlayed {S : Type 0} (g : Ghosts S) (how : How) (first : Store S) (setting : Setting)
+pub record LosesPlayed {S : Type 0} (g : Ghosts S) (how : How) (first : Store S) (setting : HttpSettings)
     (list before after : Option (List ℕ))
     (Stands : List ℕ → Behind → Option (List ℕ) → Type 0) (fault : Failure) : Type 0 where
   pub unprinted : how.answers ≡ false → (after ≡ before)
@@ -125,7 +125,7 @@ pub record LosesList {S : Type 0} (g : Ghosts S) (old : Held S) (how : How)
     (list before after : Option (List ℕ))
     (Stands : List ℕ → Behind → Option (List ℕ) → Type 0) (fault : Failure) : Type 0 where
   pub first : Store S
-  pub setting : Setting
+  pub setting : HttpSettings
   pub opens : IsClean g first.conn → OpensRoom g old first
   pub is_set : IsSetting first.plan.zone how.history setting
   pub loses : LosesPlayed g how first setting list before after Stands fault

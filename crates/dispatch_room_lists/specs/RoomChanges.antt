@@ -11,7 +11,7 @@ use Rattle.room_types.specs.declared.fleet.Terminal.{Terminal}
 use Rattle.room_store.specs.declared.store.Store.{Store}
 use Rattle.dispatch_room_csv.specs.PlanFile.{IsPlanText}
 use Rattle.dispatch_room_cli.specs.TerminalNames.{IsWho, who_text}
-use Rattle.dispatch_room_cli.specs.declared.exit_status.Failure.{Failure}
+use Rattle.dispatch_room_exit.specs.declared.exit_status.Failure.{Failure}
 use Rattle.dispatch_room_tasks.specs.ChangedTerminals.{HasChanged}
 use Rattle.dispatch_room_tasks.specs.OpenedRoom.{HoldsNone, IsUnopened, OpensRoom}
 use Rattle.dispatch_room_tasks.specs.ReplacedTerminals.{HasReplaced}

@@ -4,7 +4,7 @@ ghost use Rattle.std.specs.Prelude.{OnOk};
 ghost use Rattle.room_store.specs.StoredRoom.{IsReady};
 ghost use Rattle.dispatch_room_lists.specs.RoomDigests.{PrintsDigest, PrintsDigits, digest_line};
 
-use dispatch_room_cli::exit_status::{Done, Failure, refused};
+use dispatch_room_exit::exit_status::{Done, Failure, refused};
 use dispatch_room_journal::journal_digests::digest_of;
 use room_model::digests::Version;
 use room_store::store::Store;

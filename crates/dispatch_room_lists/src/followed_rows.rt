@@ -2,7 +2,7 @@
 //! behind the rows decides how much of it is done.
 ghost use Rattle.std.specs.Prelude.{◌≡◌, ◌⊎◌, Err, IfErr, IfOk, Ok, OnErr, OnOk};
 ghost use Rattle.room_store.specs.StoredRoom.{IsReady};
-ghost use Rattle.dispatch_room_cli.specs.declared.exit_status.Failure.{Failure as Why};
+ghost use Rattle.dispatch_room_exit.specs.declared.exit_status.Failure.{Failure as Why};
 ghost use Rattle.dispatch_room_journal.specs.ReplayFaults.{IsUnavailableFault};
 ghost use Rattle.dispatch_room_journal.specs.declared.replay_faults.ReplayFault.TheVariants.{Bad};
 ghost use Rattle.dispatch_room_lists.specs.ListedRows.{EnrolsDue, EnrolsSome, Follows, IsElsewhere};
@@ -14,10 +14,10 @@ ghost use Rattle.dispatch_room_lists.specs.StoodRooms.{GoesOn, StageGoesOn};
 use crate::listed_changes::{ListedChange, listed_in};
 use crate::listed_rows::{enrol_rows, has_come_to};
 use crate::room_changes::{Remade, RoomChange, remake};
-use dispatch_room_cli::exit_status::Failure;
-use dispatch_room_cli::failure_causes::Explainer;
+use dispatch_room_exit::exit_status::Failure;
+use dispatch_room_exit::failure_causes::Explainer;
 use dispatch_room_journal::replay_faults::ReplayFault;
-use room_http::settings::Setting;
+use room_http::settings::HttpSettings;
 use room_model::digests::Head;
 use room_store::store::Store;
 use room_types::fleet::FleetRow;
@@ -28,7 +28,7 @@ use std::alloc::Global;
 /// The room that a list is replayed to, and the setting in which it answers.
 pub struct Stage<S: Alter> {
     pub room: Store<S>,
-    pub setting: Setting,
+    pub setting: HttpSettings,
 }
 
 /// What came of following rows, and the room after them; or why no room is open any more.
@@ -148,7 +148,7 @@ fn followed_by<S: Alter>(remade: Remade<S>, history: bool) -> (Result<(), Replay
         Ok(()) => Ok(()),
         Err(failure) => Err(unmade_fault(failure)),
     };
-    let setting = Setting { zone, history };
+    let setting = HttpSettings { zone, history };
     (done, Stage { room, setting })
 }
 

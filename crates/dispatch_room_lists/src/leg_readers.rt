@@ -69,7 +69,7 @@ impl<R: Source> LegReader<R> {
 }
 
 impl<R: Source> Source for LegReader<R> {
-    ghost left = { λ list. left_in list.reel.mode list.reel.vouched list.reel.inbox
+    ghost left = { λ list. left_in list.cursor.mode list.cursor.vouched list.cursor.inbox
         (R.left list.reader) };
 
     ghost reads = { λ _. None };

@@ -4,8 +4,8 @@ ghost use Rattle.room_store.specs.StoredRoom.{IsReady};
 ghost use Rattle.dispatch_room_lists.specs.ReplayEnds.{Concludes, IsLeftOut};
 
 use crate::digest_lines::print_digest;
-use dispatch_room_cli::exit_status::{Done, Failure};
 use dispatch_room_cli::tasks::Replay;
+use dispatch_room_exit::exit_status::{Done, Failure};
 use room_store::store::Store;
 use sqlite::Alter;
 use std::io::Write;

@@ -13,9 +13,9 @@ ghost use Rattle.dispatch_room_lists.specs.StoodRooms.{GoesOn, StageGoesOn};
 
 use crate::followed_rows::{Followed, Stage, follow};
 use crate::leg_readers::Legs;
-use dispatch_room_cli::exit_status::Failure;
-use dispatch_room_cli::failure_causes::Explainer;
 use dispatch_room_cli::tasks::Replay;
+use dispatch_room_exit::exit_status::Failure;
+use dispatch_room_exit::failure_causes::Explainer;
 use dispatch_room_journal::answer_writers::AnswerWriter;
 use dispatch_room_journal::replay_faults::{ReplayFault, Stopped};
 use dispatch_room_journal::replayed_journal::{self, Replayed};

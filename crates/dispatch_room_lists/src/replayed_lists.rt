@@ -17,12 +17,12 @@ use crate::followed_rows::Stage;
 use crate::leg_readers::{LegReader, Legs};
 use crate::replay_ends::conclude;
 use crate::replayed_legs::{Course, Played, replay_legs};
-use dispatch_room_cli::exit_status::{Done, Failure, refused};
+use dispatch_room_exit::exit_status::{Done, Failure, refused};
 use dispatch_room_journal::answer_writers::AnswerWriter;
 use dispatch_room_journal::replay_faults::{ReplayFault, Stopped};
 use dispatch_room_journal::replayed_journal::Replayed;
 use dispatch_room_tasks::opened_room::{TaskResult, open_room};
-use room_http::settings::Setting;
+use room_http::settings::HttpSettings;
 use room_http_messages::sources::Source;
 use room_store::store::Store;
 use sqlite::{Alter, Connection};
@@ -80,7 +80,7 @@ pub fn replay_list<S: Alter + Drop, L: Legs, O: Write, E: Write>(
     let replay = course.replay;
     let stage = Stage {
         room,
-        setting: Setting {
+        setting: HttpSettings {
             zone,
             history: replay.history,
         },

@@ -7,9 +7,9 @@ ghost use Rattle.dispatch_room_tasks.specs.OpenedRoom.{HoldsNone};
 ghost use Rattle.dispatch_room_lists.specs.RoomChanges.{LosesRoom, Makes, Remakes};
 ghost use Rattle.room_tables_schema.specs.FileConnections.{IsClean};
 
-use dispatch_room_cli::exit_status::Failure;
-use dispatch_room_cli::failure_causes::Explainer;
 use dispatch_room_csv::plan_file::PlanFile;
+use dispatch_room_exit::exit_status::Failure;
+use dispatch_room_exit::failure_causes::Explainer;
 use dispatch_room_tasks::changed_terminals::change_in;
 use dispatch_room_tasks::opened_room::{TaskResult, open_room};
 use dispatch_room_tasks::replaced_terminals::replace_in;

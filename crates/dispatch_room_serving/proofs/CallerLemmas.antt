@@ -2,7 +2,7 @@
 use Rattle.std.specs.Prelude.{is_err}
 use Rattle.std.proofs.Common.{◌≡◌, ◌∙◌, ap, Bool, List, Option, Result, Ok, Err, false, inl, inr}
 use Rattle.std.proofs.Common.{sym, subst, true, ℕ}
-use Rattle.dispatch_room_cli.specs.declared.exit_status.Failure.{Failure}
+use Rattle.dispatch_room_exit.specs.declared.exit_status.Failure.{Failure}
 use Rattle.dispatch_room_journal.proofs.FaultLemmas.{not_both}
 use Rattle.dispatch_room_serving.specs.Callers.{MayCall, Printing, Prints, PrintsStart}
 

@@ -27,7 +27,7 @@ use Rattle.room_http.specs.Arrivals.{message, refused}
 use Rattle.room_http.specs.KeptMessages.{AreReplies}
 use Rattle.room_http.specs.MessageEvents.{AsksAs, AsksAt, AsksBy, AsksFor, IsAskFor, named}
 use Rattle.room_http.specs.Dialogues.{IsReplyTo, Timed}
-use Rattle.room_http.specs.declared.settings.Setting.{Setting}
+use Rattle.room_http.specs.declared.settings.HttpSettings.{HttpSettings}
 use Rattle.dispatch_room_journal.proofs.RoomLaws.{the_room_law}
 use Rattle.dispatch_room_serving.specs.KeptChanges.{ChangesAreTheRoom, QuestionsChangeNothing}
 use Rattle.dispatch_room_serving.specs.KeptChanges.{answers_to_changes, asks_only, changes_in}
@@ -51,7 +51,7 @@ is_asked Post method may asks =
     let post : method ≡ codes "POST" = (bytes_eq-Decides method (codes "POST")).0 may in
     absurd (let other : asks_only (codes "POST") ≡ true = subst (λ (m : List ℕ). asks_only m ≡ true) post asks in cc)
 
-module _ (setting : Setting) (terminals : List Terminal) where
+module _ (setting : HttpSettings) (terminals : List Terminal) where
   asked : (t : Target) (body : List ℕ) (given : Request) (asks : Ask) → allow_of (path_of t) ≡ GetHead
       → request_by t body ≡ Some given → IsAskFor setting given asks → is_question asks ≡ true
   asked t body (request.Ask a) asks get is of =

@@ -12,7 +12,7 @@ use Rattle.room_types.specs.declared.fleet.Terminal.{Terminal}
 use Rattle.room_model.specs.FleetRows.{AreTerminals}
 use Rattle.room_model.specs.Room.{Room}
 use Rattle.room_model.specs.RoomAgreements.{IsWellFormed}
-use Rattle.room_http.specs.declared.settings.Setting.{Setting}
+use Rattle.room_http.specs.declared.settings.HttpSettings.{HttpSettings}
 use Rattle.room_store.specs.StoredRoom.{IsKept, IsRoom, LeavesOneOf}
 use Rattle.room_store.specs.declared.store.Store.{Store}
 use Rattle.room_store_writes.specs.Configurations.{config_of}
@@ -24,7 +24,7 @@ use Rattle.room_http.specs.declared.session.ServeEnd.{ServeEnd}
 use Rattle.room_http.specs.declared.session.ServeEnd.TheVariants as end
 use Rattle.room_http.proofs.PromiseLaws.{promises_kept}
 use Rattle.room_http.proofs.RunLemmas.{room_split, run_join}
-use Rattle.dispatch_room_cli.specs.declared.exit_status.Failure.{Failure}
+use Rattle.dispatch_room_exit.specs.declared.exit_status.Failure.{Failure}
 use Rattle.room_http_messages.specs.Streams.{Grows}
 use Rattle.dispatch_room_serving.specs.Connections.{AreAttended, AreJoined, AreKept, AreNext}
 use Rattle.dispatch_room_serving.specs.Connections.{AreServed, AttendsNext, Conversation, EndsAs}
@@ -61,7 +61,7 @@ module _ {S : Type 0} where
   connected_more (None ∷ calls) more = connected_more calls more
   connected_more (Some c ∷ calls) more = ap (λ cs. c ∷ cs) (connected_more calls more)
 
-module _ {S : Type 0} (g : Ghosts S) (setting : Setting) (terminals : List Terminal) where
+module _ {S : Type 0} (g : Ghosts S) (setting : HttpSettings) (terminals : List Terminal) where
   served_more : (cs ds : List (Conversation S)) (xss yss : List (List Exchange)) (room : Room)
       → AreServed g setting terminals cs xss room
       → AreServed g setting terminals ds yss (room_by (together xss) room)
@@ -119,7 +119,7 @@ module _ {S : Type 0} (g : Ghosts S) (setting : Setting) (terminals : List Termi
     promises = rw append-nil s.promises;
   }
 
-module _ {S : Type 0} (g : Ghosts S) (setting : Setting) (came_text : ℕ → List ℕ → List ℕ)
+module _ {S : Type 0} (g : Ghosts S) (setting : HttpSettings) (came_text : ℕ → List ℕ → List ℕ)
     (response_text : List ℕ → List ℕ) where
   next_more : (cs ds : List (Conversation S)) (a b c : Stage S)
       → AreNext g setting came_text response_text cs a b → AreNext g setting came_text response_text ds b c
@@ -267,7 +267,7 @@ looks_same g store = record {
 sound_of_none : (end : ServeEnd) (is_sound : Bool) → fault_by end is_sound ≡ None
     → is_sound ≡ false → ⊥
 sound_of_none end.Memory is_sound none unsound = cc
-sound_of_none end.Unkept is_sound none unsound = cc
+sound_of_none end.JournalFailed is_sound none unsound = cc
 sound_of_none end.Closed true none unsound = cc
 sound_of_none end.Closed false none unsound = cc
 sound_of_none end.Cut true none unsound = cc
@@ -281,7 +281,7 @@ sound_of_none end.ClockFault false none unsound = cc
 sound_of_none end.ReadsSpent true none unsound = cc
 sound_of_none end.ReadsSpent false none unsound = cc
 
-module _ {S : Type 0} (g : Ghosts S) (setting : Setting) (came_text : ℕ → List ℕ → List ℕ)
+module _ {S : Type 0} (g : Ghosts S) (setting : HttpSettings) (came_text : ℕ → List ℕ → List ℕ)
     (response_text : List ℕ → List ℕ) where
   -- where more is served after a connection, what the store holds is kept
   pub kept_after : (stage : Stage S) (c : Conversation S) → IsNext g setting came_text response_text stage c
@@ -325,7 +325,7 @@ module _ {S : Type 0} (g : Ghosts S) (setting : Setting) (came_text : ℕ → Li
       All-cons (λ c. IsKept g c.from) c [] (kept_from stage c in_turn.0.begins kept) (All-nil (λ c. IsKept g c.from))
 
 -- ---- one call more
-module _ {S : Type 0} (g : Ghosts S) (setting : Setting) (came_text : ℕ → List ℕ → List ℕ)
+module _ {S : Type 0} (g : Ghosts S) (setting : HttpSettings) (came_text : ℕ → List ℕ → List ℕ)
     (response_text : List ℕ → List ℕ) where
   pub served_none : (s : Service S) → HasServed g setting came_text response_text s s 0
   served_none s = record {

@@ -25,7 +25,7 @@ use Rattle.room_model.specs.declared.digests.Version.{Version}
 use Rattle.room_http_time.specs.Days.{zone_of}
 use Rattle.room_types.specs.declared.numbers.TheConstants.{LAST_MOMENT}
 use Rattle.room_http.specs.Settings.{IsSetting}
-use Rattle.room_http.specs.declared.settings.Setting.{Setting}
+use Rattle.room_http.specs.declared.settings.HttpSettings.{HttpSettings}
 use Rattle.room_http.specs.Arrivals.{message as arrived, refused}
 use Rattle.room_http.specs.Course.{AreFirstIn}
 use Rattle.room_http.specs.KeptMessages.{AreKept as AreRecords, AreReplies, IsCome}
@@ -115,7 +115,7 @@ module _ {S : Type 0} where
       (more, [], ap (λ a. response ++ a) (sym (append-nil more)), few, refl)
 
 -- ---- answers in another setting of the same zone and history
-module _ (text : List ℕ) (a b : Setting) (in_a : IsSetting text b.history a)
+module _ (text : List ℕ) (a b : HttpSettings) (in_a : IsSetting text b.history a)
     (in_b : IsPosixZone text (zone_of b.zone)) (terminals : List Terminal) where
   pub reply_in : (room : Room) (x : Timed) (after : Room) (bytes : List ℕ)
       → IsReplyTo machine a terminals room x after bytes
@@ -133,7 +133,7 @@ module _ (text : List ℕ) (a b : Setting) (in_a : IsSetting text b.history a)
       (replies.0, reply_in room x replies.0 response replies.1, replies_in replies.0 outs answers after replies.2)
 
 -- ---- what was exchanged is what was answered
-module _ (setting : Setting) (terminals : List Terminal) where
+module _ (setting : HttpSettings) (terminals : List Terminal) where
   abbrev Replies : Room → Timed → Room → List ℕ → Type 0
   Replies = IsReplyTo machine setting terminals
 
@@ -247,7 +247,7 @@ module _ {S : Type 0} (g : Ghosts S) where
       other (is.tables kept.is_open) (also.tables kept.is_open)
 
   -- the room after what was answered, or the one after the last arrival
-  module _ (setting : Setting) (terminals : List Terminal) (c : Conversation S) (now after : Room)
+  module _ (setting : HttpSettings) (terminals : List Terminal) (c : Conversation S) (now after : Room)
       (s : Served setting (AreFirstIn c.course c.before.left c.before.given c.after.given)
       c.before.held c.after.held (IsKept g c.from) (IsRoom g c.store) (LeavesOneOf g c.store) terminals now)
       (kept : IsKept g c.from)
@@ -345,7 +345,7 @@ pub record Ends {S : Type 0} (g : Ghosts S) (terminals : List Terminal) (Comes :
   pub leaves : (db : Trees) → (state g store.conn).may_leave db
       → (room : Room) × Comes room × Stands db (config_of store.plan terminals) room
 
-module _ {S : Type 0} (g : Ghosts S) (setting : Setting) (text : List ℕ)
+module _ {S : Type 0} (g : Ghosts S) (setting : HttpSettings) (text : List ℕ)
     (in_zone : IsPosixZone text (zone_of setting.zone)) (terminals : List Terminal) (held : Room) where
   abbrev pub digits : DigitsOf
   digits = digits_of digest_of text
@@ -382,7 +382,7 @@ module _ {S : Type 0} (g : Ghosts S) (setting : Setting) (text : List ℕ)
       (subst (λ (t : Stage S). EndsAt cs list t.store) (sym same) (still_ends cs list stage.store now come is leaves))
 
   -- in the setting in which they were served
-  module _ (served_in : Setting) (in_served : IsSetting text setting.history served_in) where
+  module _ (served_in : HttpSettings) (in_served : IsSetting text setting.history served_in) where
     ready : (cs : List (Conversation S)) (c : Conversation S) (list more : List ℕ) (now after : Room)
         → Settles cs list now
         → AreReplies machine served_in terminals now c.course.outs c.course.answers after
@@ -444,9 +444,9 @@ module _ {S : Type 0} (g : Ghosts S) (setting : Setting) (text : List ℕ)
         keeps : c.keeps ≡ Some list_after
         stands : IsRoom g c.store terminals after
 
-      no_more : GoesOn c → c.end ≡ end.Unkept → ⊥
+      no_more : GoesOn c → c.end ≡ end.JournalFailed → ⊥
       no_more goes unkept =
-          let fault : fault_by end.Unkept c.store.is_sound
+          let fault : fault_by end.JournalFailed c.store.is_sound
           ≡ None = subst (λ (e : ServeEnd). fault_by e c.store.is_sound ≡ None) unkept goes in
           cc
 

@@ -33,8 +33,8 @@ use Rattle.room_tables_rows.proofs.OneRoom.{one_config, one_room}
 use Rattle.room_tables_schema.specs.FileConnections.{HasRoomSchema, IsClean}
 use Rattle.dispatch_room_csv.specs.declared.fleet_file.FleetLine.{FleetLine}
 use Rattle.dispatch_room_csv.specs.declared.plan_file.PlanFile.{PlanFile}
-use Rattle.dispatch_room_cli.specs.declared.exit_status.Done.{Done}
-use Rattle.dispatch_room_cli.specs.declared.exit_status.Failure.{Failure}
+use Rattle.dispatch_room_exit.specs.declared.exit_status.Done.{Done}
+use Rattle.dispatch_room_exit.specs.declared.exit_status.Failure.{Failure}
 use Rattle.dispatch_room_tasks.proofs.DeedLaws.{after_join, given_is, heard_early, heard_join}
 use Rattle.dispatch_room_tasks.proofs.DeedLaws.{listed_is, messages_heard, planned_is, rows_after}
 use Rattle.dispatch_room_tasks.proofs.DeedLaws.{rows_heard, run_of_messages, sound_after}
@@ -347,12 +347,14 @@ module _ {S : Type 0} (g : Ghosts S)
         Stands trees (config_of plan (enrolled (take made.count rows) c.room c.terminals).1)
         (enrolled (take made.count rows) c.room c.terminals).0) c.plan (made.stands.tables (rw c.conn is_open)) in
         rows_done made.count (inl refl)
-        (subst (λ (it : Held S). Shows (state g it).now.trees (contents_after (map Enrolled (take made.count rows)) now))
+        (subst
+        (λ (it : Held S). Shows (state g it).now.trees (contents_after (map Enrolled (take made.count rows)) now))
         (c.conn ∙ sym same) (enrolled_as trees made.count stands))
 
   -- ---- a life
   episode_leads : (episode : Episode S) (next : Held S) (now : Contents) → IsEpisode g episode
-      → IsFoundAfter g (left_after episode) next → Shows (state g (found_by episode)).now.trees now → Leads episode next now
+      → IsFoundAfter g (left_after episode) next → Shows (state g (found_by episode)).now.trees now
+      → Leads episode next now
   episode_leads (Service first more) next now is found shown = service first more next now is found shown
   episode_leads (Import found left lines fates) next now (clean, before, after, done, c, reports) follows shown =
       imported found left lines fates next now before after done c reports shown follows

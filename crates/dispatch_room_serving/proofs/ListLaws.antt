@@ -17,7 +17,7 @@ use Rattle.room_model.specs.declared.digests.Version.{Version}
 use Rattle.room_model.specs.declared.digests.Version.TheVariants.{Second}
 use Rattle.room_http_time.specs.Days.{zone_of}
 use Rattle.room_http.specs.Settings.{IsSetting}
-use Rattle.room_http.specs.declared.settings.Setting.{Setting}
+use Rattle.room_http.specs.declared.settings.HttpSettings.{HttpSettings}
 use Rattle.room_http.specs.Arrivals.{message as arrived}
 use Rattle.room_http.specs.Dialogues.{IsFront, IsReplyTo, Timed}
 use Rattle.room_store.specs.StoredRoom.{IsRoom, LeavesOneOf}
@@ -62,7 +62,7 @@ module _ {S : Type 0} (g : Ghosts S) where
   of_last Holds Says says (s ∷ next ∷ starts) is = of_last Holds Says says (next ∷ starts) is
 
 -- ---- a start
-module _ {S : Type 0} (g : Ghosts S) (setting : Setting) (text : List ℕ)
+module _ {S : Type 0} (g : Ghosts S) (setting : HttpSettings) (text : List ℕ)
     (in_zone : IsPosixZone text (zone_of setting.zone)) (terminals : List Terminal) (held : Room) where
   abbrev CameTo : List (Conversation S) → List ℕ → Room → Type 0
   CameTo cs = Comes g setting text in_zone terminals held cs

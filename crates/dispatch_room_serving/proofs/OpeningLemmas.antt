@@ -4,8 +4,8 @@ use Rattle.std.proofs.Common.{true, ℕ, Bool, List, [], ◌∷◌, ◌++◌, �
 use Rattle.std.proofs.Common.{◌∙◌, None, Ok, Err}
 use Rattle.std.specs.Prelude.{IfErr, is_some, if◌then◌else◌, option_map, take, unwrap_or}
 use Rattle.std.specs.Result.{IsErrAnd}
-use Rattle.dispatch_room_cli.specs.declared.exit_status.Failure.{Failure}
-use Rattle.dispatch_room_cli.specs.declared.exit_status.Failure.TheVariants.{Journal, Memory}
+use Rattle.dispatch_room_exit.specs.declared.exit_status.Failure.{Failure}
+use Rattle.dispatch_room_exit.specs.declared.exit_status.Failure.TheVariants.{Journal, Memory}
 use Rattle.room_http_messages.specs.Streams.{Grows}
 use Rattle.dispatch_room_journal.specs.Chains.{opening as first_line}
 use Rattle.dispatch_room_journal.specs.RecordRuns.{first_link}
@@ -15,10 +15,10 @@ use Rattle.dispatch_room_journal.specs.declared.entry_reader.EntryFault.TheVaria
 use Rattle.dispatch_room_journal.specs.declared.entry_reader.EntryFault.TheVariants.{Read}
 use Rattle.dispatch_room_journal.specs.declared.list_ends.ListEnd.{ListEnd}
 use Rattle.dispatch_room_journal.specs.declared.list_ends.ListEnd.TheVariants.{Chain}
-use Rattle.dispatch_room_serving.specs.OpenedLists.{BreaksClearing, BreaksOff, Clears}
-use Rattle.dispatch_room_serving.specs.OpenedLists.{FindsBefore, FindsMarked, IsForeign}
-use Rattle.dispatch_room_serving.specs.OpenedLists.{IsFound, IsListFault, IsLost, IsUnfound, Opens}
-use Rattle.dispatch_room_serving.specs.OpenedLists.{Step, begun, clearing, goes_on_at, settled}
+use Rattle.dispatch_room_serving.specs.OpenedLists.{BreaksClearing, BreaksOff, Clears, FindsBefore}
+use Rattle.dispatch_room_serving.specs.OpenedLists.{FindsMarked, IsForeign, IsFound, IsListFault}
+use Rattle.dispatch_room_serving.specs.OpenedLists.{IsLost, IsUnfound, Opens, Step, begun, clearing}
+use Rattle.dispatch_room_serving.specs.OpenedLists.{goes_on_at, settled}
 use Rattle.dispatch_room_serving.specs.declared.opened_lists.WholeList.{WholeList}
 
 -- what follows the whole records of a list is not the beginning of one

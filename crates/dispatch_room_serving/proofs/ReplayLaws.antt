@@ -9,7 +9,7 @@ use Rattle.room_model.specs.Digests.{DigitsOf, digits_of}
 use Rattle.room_model.specs.Rooms.{machine}
 use Rattle.room_http_time.specs.Days.{zone_of}
 use Rattle.room_http.specs.Settings.{IsSetting}
-use Rattle.room_http.specs.declared.settings.Setting.{Setting}
+use Rattle.room_http.specs.declared.settings.HttpSettings.{HttpSettings}
 use Rattle.room_store.specs.StoredRoom.{IsRoom}
 use Rattle.room_store.specs.declared.store.Store.{Store}
 use Rattle.room_store_file.specs.DigestTexts.{digest_of}
@@ -22,7 +22,7 @@ use Rattle.dispatch_room_serving.proofs.HeardLists.{reply_in}
 use Rattle.room_tables_schema.specs.FileConnections.{IsClean}
 
 -- ---- a replay in another setting of the same zone and history
-module _ (text : List ℕ) (a b : Setting) (in_a : IsSetting text b.history a)
+module _ (text : List ℕ) (a b : HttpSettings) (in_a : IsSetting text b.history a)
     (in_b : IsPosixZone text (zone_of b.zone)) (digits : DigitsOf) (terminals : List Terminal) where
   play_in : (room : Room) (p : Play) (after : Room)
       → Answers machine a digits terminals room p after → Answers machine b digits terminals room p after

@@ -14,15 +14,15 @@ use Rattle.room_model.specs.Rooms.{machine}
 use Rattle.room_model.specs.declared.digests.Head.{Head}
 use Rattle.room_http_time.specs.Days.{zone_of}
 use Rattle.room_types.specs.declared.numbers.TheConstants.{LAST_MOMENT}
-use Rattle.room_http.specs.declared.settings.Setting.{Setting}
+use Rattle.room_http.specs.declared.settings.HttpSettings.{HttpSettings}
 use Rattle.room_http.specs.Course.{AreFirstIn, AreOf, Course}
 use Rattle.room_http.specs.Runs.{AreAnswered, Exchange, IsRun, arrivals_of, room_by}
 use Rattle.room_http.specs.Session.{Finish, ServeIs, Sides}
 use Rattle.room_http.specs.Dialogues.{LeavesNext, Timed, replied}
 use Rattle.room_http.specs.declared.session.ServeEnd.{ServeEnd}
 use Rattle.room_http.specs.declared.session.ServeEnd.TheVariants.{Closed, Cut, ReadFault}
-use Rattle.room_http.specs.declared.session.ServeEnd.TheVariants.{WriteFault, ClockFault, Unkept}
-use Rattle.room_http.specs.declared.session.ServeEnd.TheVariants.{ReadsSpent, Memory}
+use Rattle.room_http.specs.declared.session.ServeEnd.TheVariants.{WriteFault, ClockFault}
+use Rattle.room_http.specs.declared.session.ServeEnd.TheVariants.{JournalFailed, ReadsSpent, Memory}
 use Rattle.room_http.proofs.ExchangeLemmas.{answered_in, exchange_of}
 use Rattle.room_http.proofs.PromiseLaws.{promises_kept}
 use Rattle.room_http.proofs.RunLemmas.{answered_join, room_split, run_first, run_of}
@@ -30,8 +30,8 @@ use Rattle.room_store.specs.StoredRoom.{IsKept, IsRoom, LeavesOneOf}
 use Rattle.room_store.specs.declared.store.Store.{Store}
 use Rattle.room_store_writes.specs.Configurations.{config_of}
 use Rattle.room_tables.specs.RoomsInTables.{Configuration, Stands}
-use Rattle.dispatch_room_cli.specs.declared.exit_status.Done.{Done}
-use Rattle.dispatch_room_cli.specs.declared.exit_status.Failure.{Failure}
+use Rattle.dispatch_room_exit.specs.declared.exit_status.Done.{Done}
+use Rattle.dispatch_room_exit.specs.declared.exit_status.Failure.{Failure}
 use Rattle.dispatch_room_tasks.specs.OpenedRoom.{OpensRoom}
 use Rattle.dispatch_room_serving.specs.Connections.{AreJoined, AreNext, AreServed, Conversation}
 use Rattle.dispatch_room_serving.specs.Connections.{EndsAs, GoOnBefore, GoesOn, IsNext, IsServed}
@@ -40,8 +40,8 @@ use Rattle.dispatch_room_serving.specs.Connections.{together}
 use Rattle.dispatch_room_serving.specs.ServedRoom.{KeepsHead, ServesRoom}
 use Rattle.dispatch_room_serving.specs.Starts.{AreDone, AreStarts, Exchanged, Follows, IsDone}
 use Rattle.dispatch_room_serving.specs.Starts.{AreOneRun, IsStart, IsTrusted, IsUnwritten}
-use Rattle.dispatch_room_serving.specs.Starts.{ServedIsAStart, ServingIsAStart, Start}
-use Rattle.dispatch_room_serving.specs.Starts.{all_of, connections, left_by, whole_of}
+use Rattle.dispatch_room_serving.specs.Starts.{ServedIsAStart, ServingIsAStart, Start, all_of}
+use Rattle.dispatch_room_serving.specs.Starts.{connections, left_by, whole_of}
 use Rattle.dispatch_room_serving.specs.Lives.{IsFoundAfter, last_of}
 use Rattle.dispatch_room_serving.proofs.ConnectionLaws.{attended_none, connected_more}
 use Rattle.room_tables_schema.specs.FileConnections.{IsClean}
@@ -65,7 +65,7 @@ module _ (course : Course) where
       let same : y ≡ x = cc (other, last) in
       All-same InTime outs (course.outs ++ x ∷ []) (is ∙ ap (λ z. course.outs ++ z ∷ []) same) timed
 
-  module _ (setting : Setting) (old : Sides) (new : Finish) (trusted failed : Type 0)
+  module _ (setting : HttpSettings) (old : Sides) (new : Finish) (trusted failed : Type 0)
       (stood stands : List Terminal → Room → Type 0) (while_unserved : Timed → List Terminal → Room → Type 0)
       (budget : ℕ) where
     timed : (end : ServeEnd)
@@ -78,14 +78,14 @@ module _ (course : Course) where
     timed ReadFault failed = whole_timed failed.0.0 failed.0.1.timed.0
     timed WriteFault ((x, last, inl broken), failed) = last_timed x last broken.timed.0
     timed WriteFault ((x, last, inr unserved), failed) = last_timed x last unserved.timed.0
-    timed Unkept ((x, last, inl unwritten), failed) = last_timed x last unwritten.timed.0
-    timed Unkept ((x, last, inr unwritten), failed) = last_timed x last unwritten.timed.0
+    timed JournalFailed ((x, last, inl unwritten), failed) = last_timed x last unwritten.timed.0
+    timed JournalFailed ((x, last, inr unwritten), failed) = last_timed x last unwritten.timed.0
     timed ClockFault (none, (o, untimed)) = whole_timed none untimed.timed
     timed ReadsSpent spent = whole_timed spent.0.0 spent.0.1.timed.0
     timed Memory refused = whole_timed refused.1.0 refused.1.1.timed.0
 
 -- ---- what a start leaves
-module _ {S : Type 0} (g : Ghosts S) (setting : Setting) (terminals : List Terminal) where
+module _ {S : Type 0} (g : Ghosts S) (setting : HttpSettings) (terminals : List Terminal) where
   -- the room after what was exchanged, or that after one exchange more
   abbrev Left : List (Conversation S) → List (List Exchange) → Store S → Room → Type 0
   Left cs dialogues last after = LeavesOneOf g last terminals (after ∷ [])
@@ -187,7 +187,7 @@ module _ {S : Type 0} (g : Ghosts S) (setting : Setting) (terminals : List Termi
       left_some came_text response_text c cs dialogues room stage last next served kept
 
 -- ---- the setting of the plan stays
-module _ {S : Type 0} (g : Ghosts S) (setting : Setting) (came_text : ℕ → List ℕ → List ℕ)
+module _ {S : Type 0} (g : Ghosts S) (setting : HttpSettings) (came_text : ℕ → List ℕ → List ℕ)
     (response_text : List ℕ → List ℕ) where
   pub zone_stays : (cs : List (Conversation S)) (stage last : Stage S)
       → AreNext g setting came_text response_text cs stage last → last.store.plan.zone ≡ stage.store.plan.zone
@@ -314,7 +314,7 @@ module _ {S : Type 0} (g : Ghosts S) (came_text : ℕ → List ℕ → List ℕ)
 
   -- ---- all starts
   -- the zone of a start's plan, and history where it serves it
-  record IsSetFor (setting : Setting) (s : Start S) : Type 0 where
+  record IsSetFor (setting : HttpSettings) (s : Start S) : Type 0 where
     zone : IsPosixZone s.opened.plan.zone (zone_of setting.zone)
     history : s.setting.history ≡ setting.history
 
@@ -322,14 +322,14 @@ module _ {S : Type 0} (g : Ghosts S) (came_text : ℕ → List ℕ → List ℕ)
   config_in zone terminals = record { zone = zone; terminals = terminals }
 
   -- from the room that the first opened, in a setting that is its own, to what is found at the end
-  record Run (setting : Setting) (terminals : List Terminal) (starts : List (Start S)) (zone : List ℕ)
+  record Run (setting : HttpSettings) (terminals : List Terminal) (starts : List (Start S)) (zone : List ℕ)
       (room : Room) (db : Trees) : Type 0 where
     done : List Exchanged
     each : AreDone g terminals starts done room
     answered : AreAnswered setting terminals (whole_of done) room
     stands : Stands db (config_in zone terminals) (room_by (whole_of done) room)
 
-  module _ (setting : Setting) (terminals : List Terminal) (last : Held S) where
+  module _ (setting : HttpSettings) (terminals : List Terminal) (last : Held S) where
     own_answers : (s : Start S) → IsStart g came_text response_text s → IsSetFor setting s
         → (xs : List Exchange) (room : Room)
         → AreAnswered s.setting terminals xs room → AreAnswered setting terminals xs room
@@ -382,7 +382,8 @@ module _ {S : Type 0} (g : Ghosts S) (came_text : ℕ → List ℕ → List ℕ)
               (are_answered s room start clean is set db step);
           stands =
               subst (λ ys. Stands db (config_in s.opened.plan.zone terminals) (room_by ys room)) same
-              (subst (Stands db (config_in s.opened.plan.zone terminals)) (sym (room_is s room start clean is set db step))
+              (subst (Stands db (config_in s.opened.plan.zone terminals))
+              (sym (room_is s room start clean is set db step))
               (subst (λ zone. Stands db (config_in zone terminals)
               (room_by step.not_written (room_by (together here.dialogues) room))) (one_zone s start clean)
               step.stands));
@@ -402,7 +403,8 @@ module _ {S : Type 0} (g : Ghosts S) (came_text : ℕ → List ℕ → List ℕ)
         let joint = all s room start here is set in
         let next_start = first_of next starts later in
         let next_opens = opens next next_start (All-head (IsTrusted g) next starts rest) in
-        let step = goes s next terminals joint.dialogues (room_by (together joint.dialogues) room) next_opens joint.after
+        let step = goes s next terminals joint.dialogues (room_by (together joint.dialogues) room) next_opens
+        joint.after
         follows (left s start here terminals room is) in
         let x = exchanged s room start here is set db step in
         let it = opens_it s next terminals (room_by step.not_written (room_by (together joint.dialogues) room))

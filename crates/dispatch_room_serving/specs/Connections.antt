@@ -5,7 +5,7 @@ use Rattle.std.specs.Prelude.{Option, None, Some, Result, Ok, Err}
 use Rattle.sqlite_trees.specs.declared.store.Store.{Ghosts}
 use Rattle.room_types.specs.declared.fleet.Terminal.{Terminal}
 use Rattle.room_model.specs.Room.{Room}
-use Rattle.room_http.specs.declared.settings.Setting.{Setting}
+use Rattle.room_http.specs.declared.settings.HttpSettings.{HttpSettings}
 use Rattle.room_model.specs.Rooms.{machine}
 use Rattle.room_store.specs.StoredRoom.{IsKept, IsRoom, LeavesOneOf}
 use Rattle.room_store.specs.declared.store.Store.{Store}
@@ -19,11 +19,11 @@ use Rattle.room_http.specs.Session.{Finish, MissesNone, ReadsAtMost, ServeIs, Si
 use Rattle.room_http.specs.Dialogues.{IsUnserved, Stays}
 use Rattle.room_http.specs.declared.session.ServeEnd.{ServeEnd}
 use Rattle.room_http.specs.declared.session.ServeEnd.TheVariants as end
-use Rattle.dispatch_room_cli.specs.declared.exit_status.Done.{Done}
-use Rattle.dispatch_room_cli.specs.declared.exit_status.Done.TheVariants.{Whole}
-use Rattle.dispatch_room_cli.specs.declared.exit_status.Failure.{Failure}
-use Rattle.dispatch_room_cli.specs.declared.exit_status.Failure.TheVariants.{Journal, Memory}
-use Rattle.dispatch_room_cli.specs.declared.exit_status.Failure.TheVariants.{Storage}
+use Rattle.dispatch_room_exit.specs.declared.exit_status.Done.{Done}
+use Rattle.dispatch_room_exit.specs.declared.exit_status.Done.TheVariants.{Whole}
+use Rattle.dispatch_room_exit.specs.declared.exit_status.Failure.{Failure}
+use Rattle.dispatch_room_exit.specs.declared.exit_status.Failure.TheVariants.{Journal, Memory}
+use Rattle.dispatch_room_exit.specs.declared.exit_status.Failure.TheVariants.{Storage}
 use Rattle.room_http_messages.specs.Streams.{Grows}
 use Rattle.dispatch_room_serving.specs.Callers.{Opening}
 use Rattle.room_tables_schema.specs.FileConnections.{IsClean}
@@ -71,7 +71,7 @@ fault_of_store false = Some Storage
 -- more is served
 abbrev pub fault_by : ServeEnd → Bool → Option Failure
 fault_by end.Memory is_sound = Some Memory
-fault_by end.Unkept is_sound = Some Journal
+fault_by end.JournalFailed is_sound = Some Journal
 fault_by end.Closed is_sound = fault_of_store is_sound
 fault_by end.Cut is_sound = fault_of_store is_sound
 fault_by end.ReadFault is_sound = fault_of_store is_sound
@@ -146,7 +146,7 @@ module _ {S : Type 0} where
 abbrev pub together : List (List Exchange) → List Exchange
 together dialogues = flat_map (λ xs. xs) dialogues
 
-module _ {S : Type 0} (g : Ghosts S) (setting : Setting) (terminals : List Terminal) where
+module _ {S : Type 0} (g : Ghosts S) (setting : HttpSettings) (terminals : List Terminal) where
   -- on the connection these exchanges were served, from this room
   pub record IsServed (c : Conversation S) (xs : List Exchange) (room : Room) : Type 0 where
     pub served : Served setting (AreFirstIn c.course c.before.left c.before.given c.after.given)
@@ -171,7 +171,7 @@ module _ {S : Type 0} (g : Ghosts S) (setting : Setting) (terminals : List Termi
     pub promises : Promises terminals (together dialogues) room
 
 -- where an observer keeps so much of a message at its moment, and of an answer
-module _ {S : Type 0} (g : Ghosts S) (setting : Setting) (came_text : ℕ → List ℕ → List ℕ)
+module _ {S : Type 0} (g : Ghosts S) (setting : HttpSettings) (came_text : ℕ → List ℕ → List ℕ)
     (response_text : List ℕ → List ℕ) where
   -- It was served as one connection is, from where serving stood, and observed. The observer fails
   -- only where something can't be kept. The zone of the plan stays. What the store holds afterwards
@@ -190,7 +190,7 @@ module _ {S : Type 0} (g : Ghosts S) (setting : Setting) (came_text : ℕ → Li
         (ActsOnEach machine setting (IsClean g c.store.conn) (IsRoom g c.from)
         (IsRoom g c.store)) c.before.left
         (tapes_before c) (tapes_after c) c.end c.course
-    pub failed : c.end ≢ end.Unkept → c.after.observer_failed ≡ c.had_failed
+    pub failed : c.end ≢ end.JournalFailed → c.after.observer_failed ≡ c.had_failed
     pub same_zone : c.store.plan.zone ≡ c.from.plan.zone
     pub trusted : IsClean g c.store.conn → IsClean g c.from.conn
     pub kept : IsClean g c.store.conn
@@ -246,7 +246,7 @@ done_or (Some fault) = Err fault
 
 -- The next call was attended to, and the result says whether more is served after it. If more is,
 -- what held of so many calls holds of one more.
-pub record AttendsNext {S : Type 0} (g : Ghosts S) (setting : Setting)
+pub record AttendsNext {S : Type 0} (g : Ghosts S) (setting : HttpSettings)
     (came_text : ℕ → List ℕ → List ℕ) (response_text : List ℕ → List ℕ) (old new : Service S)
     (result : Result (Unit {0}) Failure) : Type 0 where
   pub call : Option (Conversation S)

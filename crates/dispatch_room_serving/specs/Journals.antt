@@ -1,9 +1,9 @@
 -- What a journal holds, what of it lasts, and when it has failed.
 use Rattle.std.specs.Prelude.{◌≡◌, ◌⊎◌, ℕ, List, Bool, true, false, Option, None, Some}
 use Rattle.std.specs.Prelude.{option_and_then, Err, IsErr, IsNone, Ok, Result}
-use Rattle.dispatch_room_cli.specs.declared.exit_status.Done.{Done}
-use Rattle.dispatch_room_cli.specs.declared.exit_status.Failure.{Failure}
-use Rattle.dispatch_room_cli.specs.declared.exit_status.Failure.TheVariants as failure
+use Rattle.dispatch_room_exit.specs.declared.exit_status.Done.{Done}
+use Rattle.dispatch_room_exit.specs.declared.exit_status.Failure.{Failure}
+use Rattle.dispatch_room_exit.specs.declared.exit_status.Failure.TheVariants as failure
 use Rattle.std.specs.Option.{option_map}
 use Rattle.dispatch_room_journal.specs.Chains.{sha256_digits}
 use Rattle.dispatch_room_journal.specs.PlainTexts.{plain_of}

@@ -10,7 +10,7 @@ use Rattle.room_http.specs.declared.arrivals.Arrived.TheVariants.{Message, Refus
 use Rattle.room_http.specs.Arrivals.{message, refused}
 use Rattle.room_http.specs.KeptMessages.{AreKept, AreReplies}
 use Rattle.room_http.specs.Dialogues.{Timed}
-use Rattle.room_http.specs.declared.settings.Setting.{Setting}
+use Rattle.room_http.specs.declared.settings.HttpSettings.{HttpSettings}
 use Rattle.dispatch_room_journal.specs.Entries.{IsEntry, texts_of}
 use Rattle.dispatch_room_journal.specs.JournalRecords.{answer_text, message_text}
 use Rattle.dispatch_room_journal.specs.ReplayLaws.{answers_to_messages}
@@ -52,7 +52,7 @@ answers_to_changes (x ∷ outs) (answer ∷ answers) =
 -- same answers, had only they come, and come to the same room.
 abbrev pub QuestionsChangeNothing : Type 0
 QuestionsChangeNothing =
-    (setting : Setting) (terminals : List Terminal) (room after : Room) (outs : List Timed)
+    (setting : HttpSettings) (terminals : List Terminal) (room after : Room) (outs : List Timed)
     (answers : List (List ℕ))
     → AreReplies machine setting terminals room outs answers after
     → AreReplies machine setting terminals room (changes_in outs) (answers_to_changes outs answers)
@@ -62,7 +62,7 @@ QuestionsChangeNothing =
 -- same room, with the same answers to them.
 abbrev pub ChangesAreTheRoom : Type 0
 ChangesAreTheRoom =
-    (setting : Setting) (digits : DigitsOf) (terminals : List Terminal) (room after other : Room)
+    (setting : HttpSettings) (digits : DigitsOf) (terminals : List Terminal) (room after other : Room)
     (outs : List Timed) (answers : List (List ℕ)) (text : List ℕ) (ts : List Turn)
     → AreReplies machine setting terminals room outs answers after
     → AreKept message_text answer_text (changes_in outs) (answers_to_changes outs answers) text

@@ -13,13 +13,13 @@ use Rattle.room_model.specs.declared.digests.Version.TheVariants.{Second}
 use Rattle.room_http.specs.Dialogues.{IsFront, IsReplyTo, Timed}
 use Rattle.room_http_time.specs.Days.{zone_of}
 use Rattle.room_http.specs.Settings.{IsSetting}
-use Rattle.room_http.specs.declared.settings.Setting.{Setting}
+use Rattle.room_http.specs.declared.settings.HttpSettings.{HttpSettings}
 use Rattle.room_store.specs.StoredRoom.{IsRoom}
 use Rattle.room_store.specs.declared.store.Store.{Store}
 use Rattle.room_store_file.specs.DigestTexts.{digest_of}
 use Rattle.room_tables.specs.RoomsInTables.{Configuration, Stands}
-use Rattle.dispatch_room_cli.specs.declared.exit_status.Done.{Done}
-use Rattle.dispatch_room_cli.specs.declared.exit_status.Failure.{Failure}
+use Rattle.dispatch_room_exit.specs.declared.exit_status.Done.{Done}
+use Rattle.dispatch_room_exit.specs.declared.exit_status.Failure.{Failure}
 use Rattle.dispatch_room_journal.specs.WholeEntries.{IsCutTo}
 use Rattle.dispatch_room_journal.specs.Entries.{IsEntry, texts_of}
 use Rattle.dispatch_room_journal.specs.JournalRecords.{answer_text, message_text, room_text}
@@ -85,7 +85,7 @@ module _ {S : Type 0} (g : Ghosts S) where
     -- The list can be replayed in this setting, from this room: by turns of its entries, with the
     -- answers that were given. It leads to the room for which the store stands at the end of the
     -- last start; or to the one from which a message leads there that has no status at the end.
-    pub record IsListOf (setting : Setting) (digits : DigitsOf) (starts : List (Start S))
+    pub record IsListOf (setting : HttpSettings) (digits : DigitsOf) (starts : List (Start S))
         (room : Room) (list : List ℕ) : Type 0 where
       pub turns : List Turn
       pub are_turns : All IsTurn turns
@@ -132,7 +132,7 @@ module _ {S : Type 0} (g : Ghosts S) where
 -- read failed, memory or storage failed, or the list has more turns than are counted.
 abbrev pub ListIsReplayed : {S T : Type 0} → Ghosts S → Ghosts T → Type 0
 ListIsReplayed {S} {T} g h =
-    (terminals : List Terminal) (here there : Setting) (text : List ℕ) (starts : List (Start S))
+    (terminals : List Terminal) (here there : HttpSettings) (text : List ℕ) (starts : List (Start S))
     (room : Room) (list : List ℕ)
     → IsSetting text there.history here → IsPosixZone text (zone_of there.zone)
     → (of : IsListOf g terminals here (digits_of digest_of text) starts room list)

@@ -1,7 +1,7 @@
 -- The life of a room's file: services, imports, changes of terminals and of plans, one after
 -- another, each from what the one before left, or from what a stop of it may leave.
-use Rattle.std.specs.Prelude.{All, Err, IsTrue, List, Ok, Option, Result, [], map, take, ℕ}
-use Rattle.std.specs.Prelude.{◌+◌, ◌++◌, ◌∷◌, ◌≡◌, ◌⊎◌}
+use Rattle.std.specs.Prelude.{All, Err, IsTrue, List, Ok, Option, Result, [], map, take, ℕ, ◌+◌}
+use Rattle.std.specs.Prelude.{◌++◌, ◌∷◌, ◌≡◌, ◌⊎◌}
 use Rattle.std.specs.List.{flat_map}
 use Rattle.sqlite.specs.Held.{Held, state}
 use Rattle.sqlite_trees.specs.declared.store.Store.{Ghosts}
@@ -13,8 +13,8 @@ use Rattle.room_store_writes.specs.Transactions.{IsSettled}
 use Rattle.room_tables.specs.RoomsInTables.{Stands}
 use Rattle.room_tables_schema.specs.FileConnections.{IsClean}
 use Rattle.dispatch_room_csv.specs.declared.fleet_file.FleetLine.{FleetLine}
-use Rattle.dispatch_room_cli.specs.declared.exit_status.Done.{Done}
-use Rattle.dispatch_room_cli.specs.declared.exit_status.Failure.{Failure}
+use Rattle.dispatch_room_exit.specs.declared.exit_status.Done.{Done}
+use Rattle.dispatch_room_exit.specs.declared.exit_status.Failure.{Failure}
 use Rattle.dispatch_room_tasks.specs.ChangedTerminals.{HasChanged}
 use Rattle.dispatch_room_tasks.specs.Deeds.{AreHeard, AreSound, Contents, Deed, Enrolled, Given}
 use Rattle.dispatch_room_tasks.specs.Deeds.{Listed, Planned, Sent, contents_after}

@@ -2,8 +2,8 @@
 use Rattle.std.specs.Prelude.{◌≡◌, ◌⊎◌, ◌≤◌, ◌+◌, ◌*◌, ◌==◌, ⊤, ℕ, List, [], ◌∷◌, ◌++◌, length}
 use Rattle.std.specs.Prelude.{take, Bool, true, false, if◌then◌else◌, is_some, min, unwrap_or, Err}
 use Rattle.std.specs.Prelude.{None, Ok, Option, Result, Some}
-use Rattle.dispatch_room_cli.specs.declared.exit_status.Failure.{Failure}
-use Rattle.dispatch_room_cli.specs.declared.exit_status.Failure.TheVariants.{Journal, Memory}
+use Rattle.dispatch_room_exit.specs.declared.exit_status.Failure.{Failure}
+use Rattle.dispatch_room_exit.specs.declared.exit_status.Failure.TheVariants.{Journal, Memory}
 use Rattle.room_http_messages.specs.Streams.{Grows}
 use Rattle.dispatch_room_journal.specs.RecordRuns.{first_link}
 use Rattle.dispatch_room_journal.specs.WholeEntries.{EndsWhole, most_bytes}

@@ -8,17 +8,17 @@ use Rattle.room_types.specs.declared.fleet.Terminal.{Terminal}
 use Rattle.room_model.specs.Room.{Room}
 use Rattle.room_http.specs.Dialogues.{IsFront}
 use Rattle.room_http.specs.Settings.{IsSetting}
-use Rattle.room_http.specs.declared.settings.Setting.{Setting}
+use Rattle.room_http.specs.declared.settings.HttpSettings.{HttpSettings}
 use Rattle.room_model.specs.Digests.{IsHeadOf, digits_of}
 use Rattle.room_model.specs.declared.digests.Head.{Head}
 use Rattle.room_model.specs.declared.digests.Version.TheVariants.{Second}
 use Rattle.room_store.specs.StoredRoom.{IsKept, IsRoom, LeavesOneOf}
 use Rattle.room_store.specs.declared.store.Store.{Store}
 use Rattle.room_store_file.specs.DigestTexts.{digest_of}
-use Rattle.dispatch_room_cli.specs.declared.exit_status.Done.{Done}
-use Rattle.dispatch_room_cli.specs.declared.exit_status.Failure.{Failure}
-use Rattle.dispatch_room_cli.specs.declared.exit_status.Failure.TheVariants.{Journal, Memory}
-use Rattle.dispatch_room_cli.specs.declared.exit_status.Failure.TheVariants.{Network, Storage}
+use Rattle.dispatch_room_exit.specs.declared.exit_status.Done.{Done}
+use Rattle.dispatch_room_exit.specs.declared.exit_status.Failure.{Failure}
+use Rattle.dispatch_room_exit.specs.declared.exit_status.Failure.TheVariants.{Journal, Memory}
+use Rattle.dispatch_room_exit.specs.declared.exit_status.Failure.TheVariants.{Network, Storage}
 use Rattle.dispatch_room_tasks.specs.OpenedRoom.{OpensRoom}
 use Rattle.dispatch_room_serving.specs.Connections.{Serves, Service}
 use Rattle.room_tables_schema.specs.FileConnections.{IsClean}
@@ -96,7 +96,7 @@ module _ {S : Type 0} (g : Ghosts S) where
 
     module _ (came_text : ℕ → List ℕ → List ℕ) (response_text : List ℕ → List ℕ) where
       -- so many calls were served, from the store that was looked at
-      pub record ServesFrom (setting : Setting) (old new : Service S) (renews : Bool) (most : ℕ)
+      pub record ServesFrom (setting : HttpSettings) (old new : Service S) (renews : Bool) (most : ℕ)
           (result : Result Done Failure) : Type 0 where
         pub store : Store S
         pub kept : Option (List ℕ)
@@ -116,7 +116,7 @@ module _ {S : Type 0} (g : Ghosts S) where
             }) new renews most result
 
       -- serving did not begin, or so many calls were served
-      abbrev pub Attends : Setting → Service S → Service S → Bool → ℕ → Result Done Failure
+      abbrev pub Attends : HttpSettings → Service S → Service S → Bool → ℕ → Result Done Failure
           → Type 0
       Attends setting old new renews most result =
           IsUnheard old new result ⊎ ServesFrom setting old new renews most result
@@ -128,7 +128,7 @@ module _ {S : Type 0} (g : Ghosts S) where
         -- the store as it was opened, and as it was closed
         pub first : Store S
         pub last : Store S
-        pub setting : Setting
+        pub setting : HttpSettings
         pub opens : IsClean g first.conn → OpensRoom g conn first
         pub is_set : IsSetting first.plan.zone history setting
         pub attended : Attends setting (old first) (new last) renews most worked.0

@@ -12,11 +12,11 @@ use Rattle.room_http.specs.Course.{AreFirstIn}
 use Rattle.room_http.specs.Promises.{Promises}
 use Rattle.room_http.specs.Runs.{Exchange, IsRun, arrivals_of, room_by}
 use Rattle.room_http_time.specs.Days.{zone_of}
-use Rattle.room_http.specs.declared.settings.Setting.{Setting}
+use Rattle.room_http.specs.declared.settings.HttpSettings.{HttpSettings}
 use Rattle.room_store.specs.StoredRoom.{IsKept, IsRoom}
 use Rattle.room_store.specs.declared.store.Store.{Store}
-use Rattle.dispatch_room_cli.specs.declared.exit_status.Done.{Done}
-use Rattle.dispatch_room_cli.specs.declared.exit_status.Failure.{Failure}
+use Rattle.dispatch_room_exit.specs.declared.exit_status.Done.{Done}
+use Rattle.dispatch_room_exit.specs.declared.exit_status.Failure.{Failure}
 use Rattle.dispatch_room_tasks.specs.OpenedRoom.{OpensRoom}
 use Rattle.dispatch_room_serving.specs.Connections.{AreAttended, AreJoined, AreKept, Conversation}
 use Rattle.dispatch_room_serving.specs.Connections.{GoOnBefore, HasServed, Service, connected}
@@ -30,7 +30,7 @@ use Rattle.room_tables_schema.specs.FileConnections.{IsClean}
 pub record Start (S : Type 0) : Type 0 where
   pub found : Held S
   pub opened : Store S
-  pub setting : Setting
+  pub setting : HttpSettings
   pub calls : List (Option (Conversation S))
   pub first : Service S
   pub last : Service S
@@ -130,7 +130,7 @@ module _ {S : Type 0} (g : Ghosts S) where
         IsDone s x room × AreDone starts more (room_by (all_of x) room)
 
     -- The starts are one run from this room, in this setting, and it keeps the promises.
-    pub record AreOneRun (setting : Setting) (starts : List (Start S)) (room : Room) : Type 0 where
+    pub record AreOneRun (setting : HttpSettings) (starts : List (Start S)) (room : Room) : Type 0 where
       pub done : List Exchanged
       pub each : AreDone starts done room
       pub run : IsRun setting terminals (whole_of done) room
@@ -155,7 +155,7 @@ module _ {S : Type 0} (g : Ghosts S) where
   abbrev pub ServingIsAStart : Type 0
   ServingIsAStart =
       (came_text : ℕ → List ℕ → List ℕ) (response_text : List ℕ → List ℕ) (found : Held S)
-      (opened : Store S) (setting : Setting) (first now : Service S) (count : ℕ)
+      (opened : Store S) (setting : HttpSettings) (first now : Service S) (count : ℕ)
       → (IsClean g opened.conn → OpensRoom g found opened)
       → IsPosixZone opened.plan.zone (zone_of setting.zone) → LooksOnly g opened first.stage.store
       → (served : HasServed g setting came_text response_text first now count)

@@ -1,11 +1,11 @@
 //! The callers of a room: a source of connections, one after another.
 ghost use Rattle.std.specs.Prelude.{◌≡◌, ℕ, List, [], ◌∷◌, Option, IfErr, IfSome, false};
 ghost use Rattle.std.specs.Prelude.{option_map};
-ghost use Rattle.dispatch_room_cli.specs.declared.exit_status.Failure.TheVariants.{Network};
+ghost use Rattle.dispatch_room_exit.specs.declared.exit_status.Failure.TheVariants.{Network};
 ghost use Rattle.room_http_messages.specs.Streams.{Grows};
 ghost use Rattle.dispatch_room_serving.specs.Callers.{Opening, Printing, Prints};
 
-use dispatch_room_cli::exit_status::Failure;
+use dispatch_room_exit::exit_status::Failure;
 use room_http_messages::sinks::Sink;
 use room_http_messages::sources::Source;
 

@@ -7,7 +7,7 @@ ghost use Rattle.dispatch_room_serving.specs.ListPlaces.{has_left};
 use crate::callers::Callers;
 use crate::list_places::{Finding, standing};
 use crate::served_room::ServedPart;
-use dispatch_room_cli::exit_status::{Done, Failure};
+use dispatch_room_exit::exit_status::{Done, Failure};
 use room_http::clocks::Clock;
 use room_http::handlers::Handler;
 use room_http::observers::Observer;
@@ -18,8 +18,8 @@ use sqlite::Alter;
 /// How many reads a connection has at most.
 pub const MOST_READS: u32 = 100_000;
 
-/// Serves a room to as many calls as the terms say, one after another, each as `serve_next` does.
-/// If the terms allow a new part (`renews`), it ends early once a look before a call finds the list
+/// Serves a room to as many calls as the limits say, one after another, each as `serve_next` does.
+/// If the limits allow a new part (`renews`), it ends early once a look before a call finds the list
 /// moved or truncated, and only then.
 pub fn serve_each<S: Alter, P: Callers, C: Clock, N: Observer>(
     handler: &Handler,
@@ -52,13 +52,13 @@ pub fn serve_each<S: Alter, P: Callers, C: Clock, N: Observer>(
             store = room.new;
           };
         })
-        (part.old.terms.renews && has_left part.new.place) part.old.terms.connections result }
+        (part.old.limits.renews && has_left part.new.place) part.old.limits.connections result }
     ensures prints { P.prints callers.new ≡ P.prints callers.old }
     ensures none { part.old.place ≡ None → part.new.place ≡ None }
 {
-    let terms = part.terms;
-    for _connection in 0..terms.connections {
-        if terms.renews && standing(&mut part.place) != Finding::There {
+    let limits = part.limits;
+    for _connection in 0..limits.connections {
+        if limits.renews && standing(&mut part.place) != Finding::There {
             return Ok(Done::Whole);
         }
         if let Err(fault) = serve_next(handler, callers, room, clock, observer) {
@@ -121,7 +121,7 @@ fn goes_on(end: ServeEnd, is_sound: bool) -> Result<(), Failure>
 {
     match end {
         ServeEnd::Memory => Err(Failure::Memory),
-        ServeEnd::Unkept => Err(Failure::Journal),
+        ServeEnd::JournalFailed => Err(Failure::Journal),
         _ if is_sound => Ok(()),
         _ => Err(Failure::Storage),
     }

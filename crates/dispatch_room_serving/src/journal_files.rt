@@ -4,7 +4,7 @@ ghost use Rattle.std.specs.Prelude.{◌≡◌, ◌||◌, ◌⊎◌, ℕ, List, B
 ghost use Rattle.std.specs.Prelude.{nat_lt, not, refl, IfErr, IsErrAnd, IsTrue, MatchResult, None};
 ghost use Rattle.std.specs.Prelude.{Ok, OnErr, OnOk, Option, Some, length, true, ⊤};
 ghost use Rattle.std.specs.Io.KnownBytes.{Appends};
-ghost use Rattle.dispatch_room_cli.specs.declared.exit_status.Failure.TheVariants as failure;
+ghost use Rattle.dispatch_room_exit.specs.declared.exit_status.Failure.TheVariants as failure;
 ghost use Rattle.dispatch_room_journal.specs.Chains.{opening};
 ghost use Rattle.dispatch_room_journal.specs.PlainTexts.{StandsKnown};
 ghost use Rattle.dispatch_room_journal.specs.RowRuns.{PutsEntry};
@@ -17,11 +17,11 @@ use crate::change_marks::{ListOnDisk, mark_path, marked, unmark};
 use crate::journals::Keeper;
 use crate::list_places::{Aside, put_aside};
 use crate::opened_lists::{ListFile, Rest, end_of};
-use dispatch_room_cli::exit_status::Failure;
-use dispatch_room_cli::failure_causes::Explainer;
+use dispatch_room_exit::exit_status::Failure;
+use dispatch_room_exit::failure_causes::Explainer;
 use dispatch_room_journal::list_ends::{ListEnd, put_end, put_entry};
 use dispatch_room_journal::record_writer::put_opening;
-use room_http::observers::Unkept;
+use room_http::observers::JournalFailed;
 use room_http_messages::sinks::{Sink, WriteFailed};
 use room_http_messages::standard_wires::Wire;
 use std::alloc::Global;
@@ -569,23 +569,23 @@ impl<F: Lasting> Keeper for JournalFile<F> {
 
     ghost ends = { puts_end F.contents };
 
-    fn keep(&mut self, entry: &[u8]) -> Result<(), Unkept> {
+    fn keep(&mut self, entry: &[u8]) -> Result<(), JournalFailed> {
         if self.out.failed {
-            return Err(Unkept);
+            return Err(JournalFailed);
         }
         match put_entry(&mut self.out, &mut self.end, entry) {
             Ok(()) => Ok(()),
-            Err(_) => Err(Unkept),
+            Err(_) => Err(JournalFailed),
         }
     }
 
-    fn end(&mut self) -> Result<(), Unkept> {
+    fn end(&mut self) -> Result<(), JournalFailed> {
         if self.out.failed {
-            return Err(Unkept);
+            return Err(JournalFailed);
         }
         match put_end(&mut self.out, &mut self.end) {
             Ok(()) => Ok(()),
-            Err(_) => Err(Unkept),
+            Err(_) => Err(JournalFailed),
         }
     }
 

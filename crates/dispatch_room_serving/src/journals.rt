@@ -14,7 +14,7 @@ ghost use Rattle.dispatch_room_serving.specs.KeptChanges.{asks_only, is_kept, ke
 use dispatch_room_journal::answer_statuses::status_of;
 use dispatch_room_journal::entry_texts::EntryText;
 use room_http::arrivals::Arrived;
-use room_http::observers::{Asked, Observer, Unkept};
+use room_http::observers::{Asked, JournalFailed, Observer};
 use room_model::digests::Head;
 use room_types::numbers::Moment;
 
@@ -36,14 +36,14 @@ pub trait Keeper {
     ghost ends: { Self → Self → Type 0 };
 
     /// Keeps one entry more, and nothing else.
-    fn keep(&mut self, entry: &[u8]) -> Result<(), Unkept>
+    fn keep(&mut self, entry: &[u8]) -> Result<(), JournalFailed>
         requires is_one { (e : Entry) × IsEntry e × (entry.now ≡ text_of e) }
         ensures kept { KeepsAll (held self.old) (held self.new) entry.now result }
         ensures put { OnOk result (puts self.old self.new entry.now) }
         ensures failed { has_failed self.new ≡ (has_failed self.old || is_err result) };
 
     /// Records that the journal ended well, if its form has a record for that.
-    fn end(&mut self) -> Result<(), Unkept>
+    fn end(&mut self) -> Result<(), JournalFailed>
         ensures held { KeepsAll (held self.old) (held self.new) [] result }
         ensures ended { OnOk result (ends self.old self.new) }
         ensures failed { has_failed self.new ≡ (has_failed self.old || is_err result) };
@@ -102,7 +102,7 @@ impl<W: Keeper> Journal<W> {
     }
 
     /// Records that a part begins, at a room whose rows have this digest.
-    pub fn begin(&mut self, head: &Head) -> Result<(), Unkept>
+    pub fn begin(&mut self, head: &Head) -> Result<(), JournalFailed>
         requires { IsDigest head.now.digits }
         ensures kept { KeepsAll (W.held self.old.out) (W.held self.new.out) (room_text head.now)
             result }
@@ -114,7 +114,7 @@ impl<W: Keeper> Journal<W> {
         ensures cause { OnErr result (HasCause W.has_failed self.old self.new) }
     {
         if self.has_failed {
-            return Err(Unkept);
+            return Err(JournalFailed);
         }
         let kept = keep_room(&mut self.out, self.is_synced, head);
         self.noted(kept)
@@ -122,7 +122,7 @@ impl<W: Keeper> Journal<W> {
 
     /// Records that the journal ended well. It fails if something could not be kept before. If
     /// messages last, so does that.
-    pub fn end(&mut self) -> Result<(), Unkept>
+    pub fn end(&mut self) -> Result<(), JournalFailed>
         ensures kept { KeepsAll (W.held self.old.out) (W.held self.new.out) [] result }
         ensures ended { OnOk result (W.ends self.old.out self.new.out) }
         ensures lasts { OnOk result
@@ -132,14 +132,14 @@ impl<W: Keeper> Journal<W> {
         ensures cause { OnErr result (HasCause W.has_failed self.old self.new) }
     {
         if self.has_failed {
-            return Err(Unkept);
+            return Err(JournalFailed);
         }
         let kept = keep_end(&mut self.out, self.is_synced);
         self.noted(kept)
     }
 
     // Notes whether something could be kept: if not, the journal has failed for good.
-    fn noted(&mut self, kept: Result<(), Unkept>) -> Result<(), Unkept>
+    fn noted(&mut self, kept: Result<(), JournalFailed>) -> Result<(), JournalFailed>
         requires { self.old.has_failed ≡ false }
         ensures same_result { result ≡ kept }
         ensures failed { self.new.has_failed ≡ is_err kept }
@@ -163,7 +163,7 @@ impl<W: Keeper> Observer for Journal<W> {
 
     ghost notes = { λ _ _ _ _. ⊤ };
 
-    fn arrived(&mut self, arrived: &Arrived<'_>, at: Moment) -> Result<(), Unkept>
+    fn arrived(&mut self, arrived: &Arrived<'_>, at: Moment) -> Result<(), JournalFailed>
         requires { IsBounded arrived.now }
         ensures keeps { KeepsAll (W.held self.old.out) (W.held self.new.out)
             (kept_of self.old.keeps_questions arrived.now (came_of message_text arrived.now at))
@@ -180,7 +180,7 @@ impl<W: Keeper> Observer for Journal<W> {
         ensures cause { OnErr result (HasCause W.has_failed self.old self.new) }
     {
         if self.has_failed {
-            return Err(Unkept);
+            return Err(JournalFailed);
         }
         let kept = match arrived {
             Arrived::Message { bytes, .. } if self.keeps(arrived) => {
@@ -191,7 +191,7 @@ impl<W: Keeper> Observer for Journal<W> {
         self.noted(kept)
     }
 
-    fn answering(&mut self, arrived: &Arrived<'_>, answer: &[u8]) -> Result<(), Unkept>
+    fn answering(&mut self, arrived: &Arrived<'_>, answer: &[u8]) -> Result<(), JournalFailed>
         ensures keeps { KeepsAll (W.held self.old.out) (W.held self.new.out)
             (kept_of self.old.keeps_questions arrived.now
             (response_of answer_text arrived.now answer.now)) result }
@@ -205,7 +205,7 @@ impl<W: Keeper> Observer for Journal<W> {
             (HasCause W.has_failed self.old self.new ⊎ LacksStatus answer.now) }
     {
         if self.has_failed {
-            return Err(Unkept);
+            return Err(JournalFailed);
         }
         let kept = match arrived {
             Arrived::Message { .. } if self.keeps(arrived) => keep_answer(&mut self.out, answer),
@@ -228,7 +228,7 @@ fn asks_only(method: &[u8]) -> bool
 }
 
 // Keeps the head with which a part begins, and makes it last if `is_synced`.
-fn keep_room<W: Keeper>(out: &mut W, is_synced: bool, head: &Head) -> Result<(), Unkept>
+fn keep_room<W: Keeper>(out: &mut W, is_synced: bool, head: &Head) -> Result<(), JournalFailed>
     requires { IsDigest head.now.digits }
     ensures kept { KeepsAll (W.held out.old) (W.held out.new) (room_text head.now) result }
     ensures put { OnOk result (W.puts out.old out.new (room_text head.now)) }
@@ -244,7 +244,7 @@ fn keep_message<W: Keeper>(
     is_synced: bool,
     at: Moment,
     bytes: &[u8],
-) -> Result<(), Unkept>
+) -> Result<(), JournalFailed>
     requires { IsEntry (message at bytes.now) }
     ensures kept { KeepsAll (W.held out.old) (W.held out.new) (message_text at bytes.now) result }
     ensures put { OnOk result (W.puts out.old out.new (message_text at bytes.now)) }
@@ -255,19 +255,23 @@ fn keep_message<W: Keeper>(
 }
 
 // Keeps an answer's status.
-fn keep_answer<W: Keeper>(out: &mut W, answer: &[u8]) -> Result<(), Unkept>
+fn keep_answer<W: Keeper>(out: &mut W, answer: &[u8]) -> Result<(), JournalFailed>
     ensures kept { KeepsAll (W.held out.old) (W.held out.new) (answer_text answer.now) result }
     ensures put { OnOk result (W.puts out.old out.new (answer_text answer.now)) }
     ensures cause { OnErr result ((W.has_failed out.new ≡ true) ⊎ LacksStatus answer.now) }
 {
     match status_of(answer) {
         Some(status) => out.keep(EntryText::answer(status).bytes()),
-        None => Err(Unkept),
+        None => Err(JournalFailed),
     }
 }
 
 // Keeps an entry, and makes it last if `is_synced`.
-fn keep_entry<W: Keeper>(out: &mut W, is_synced: bool, entry: &EntryText) -> Result<(), Unkept>
+fn keep_entry<W: Keeper>(
+    out: &mut W,
+    is_synced: bool,
+    entry: &EntryText,
+) -> Result<(), JournalFailed>
     requires { (e : Entry) × IsEntry e × (entry.now.text.items ≡ text_of e) }
     ensures kept { KeepsAll (W.held out.old) (W.held out.new) entry.now.text.items result }
     ensures put { OnOk result (W.puts out.old out.new entry.now.text.items) }
@@ -281,7 +285,7 @@ fn keep_entry<W: Keeper>(out: &mut W, is_synced: bool, entry: &EntryText) -> Res
 }
 
 // Records that the journal ended well, and makes it last if `is_synced`.
-fn keep_end<W: Keeper>(out: &mut W, is_synced: bool) -> Result<(), Unkept>
+fn keep_end<W: Keeper>(out: &mut W, is_synced: bool) -> Result<(), JournalFailed>
     ensures kept { KeepsAll (W.held out.old) (W.held out.new) [] result }
     ensures ended { OnOk result (W.ends out.old out.new) }
     ensures lasts { OnOk result (Lasts is_synced (W.lasting out.new) (W.held out.new)) }
@@ -294,7 +298,7 @@ fn keep_end<W: Keeper>(out: &mut W, is_synced: bool) -> Result<(), Unkept>
 }
 
 // Makes all that was kept last if `is_synced`.
-fn make_last<W: Keeper>(out: &mut W, is_synced: bool) -> Result<(), Unkept>
+fn make_last<W: Keeper>(out: &mut W, is_synced: bool) -> Result<(), JournalFailed>
     ensures held { W.held out.new ≡ W.held out.old }
     ensures put { (first : W) (entry : List ℕ) → W.puts first out.old entry
         → W.puts first out.new entry }
@@ -305,5 +309,9 @@ fn make_last<W: Keeper>(out: &mut W, is_synced: bool) -> Result<(), Unkept>
     if !is_synced {
         return Ok(());
     }
-    if out.sync() { Ok(()) } else { Err(Unkept) }
+    if out.sync() {
+        Ok(())
+    } else {
+        Err(JournalFailed)
+    }
 }

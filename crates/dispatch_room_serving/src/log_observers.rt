@@ -12,9 +12,9 @@ ghost use Rattle.dispatch_room_serving.specs.LoggedLines.{Logs};
 use crate::journal_observers::JournalObserver;
 use crate::journals::{Journal, Keeper};
 use crate::logs::Log;
-use dispatch_room_cli::exit_status::{Done, Failure};
+use dispatch_room_exit::exit_status::{Done, Failure};
 use room_http::arrivals::Arrived;
-use room_http::observers::{Asked, Observer, Unkept};
+use room_http::observers::{Asked, JournalFailed, Observer};
 use room_model::digests::Head;
 use room_types::numbers::Moment;
 use std::io::Write;
@@ -37,7 +37,7 @@ impl<'a, E: Write, T: Clock, W: Keeper> LogAndJournal<'a, E, T, W> {
     }
 
     /// Records in the journal that it ended well, if there is a journal.
-    fn end(&mut self) -> Result<(), Unkept>
+    fn end(&mut self) -> Result<(), JournalFailed>
         ensures kept { KeepsAll (held_by W.held self.old.journal) (held_by W.held self.new.journal)
             [] result }
         ensures ended { OnOk result (EndsBy W.ends self.old.journal self.new.journal) }
@@ -78,7 +78,7 @@ impl<'a, E: Write, T: Clock, W: Keeper> Observer for LogAndJournal<'a, E, T, W> 
 
     // Beside what all observers ensure: the entry is put in the journal, and nothing else, so no
     // end.
-    fn arrived(&mut self, arrived: &Arrived<'_>, at: Moment) -> Result<(), Unkept>
+    fn arrived(&mut self, arrived: &Arrived<'_>, at: Moment) -> Result<(), JournalFailed>
         requires { IsBounded arrived.now }
         ensures kept { KeepsAll (held_by W.held self.old.journal) (held_by W.held self.new.journal)
             (came_of message_text arrived.now at) result }
@@ -94,7 +94,7 @@ impl<'a, E: Write, T: Clock, W: Keeper> Observer for LogAndJournal<'a, E, T, W> 
         }
     }
 
-    fn answering(&mut self, arrived: &Arrived<'_>, answer: &[u8]) -> Result<(), Unkept>
+    fn answering(&mut self, arrived: &Arrived<'_>, answer: &[u8]) -> Result<(), JournalFailed>
         ensures kept { KeepsAll (held_by W.held self.old.journal) (held_by W.held self.new.journal)
             (response_of answer_text arrived.now answer.now) result }
         ensures put { OnOk result (PutsBy W.puts (λ keeps. is_kept keeps arrived.now)
@@ -130,7 +130,7 @@ impl<'a, E: Write, T: Clock, W: Keeper> JournalObserver for LogAndJournal<'a, E,
     }
 
     // Beside what all observers ensure: the head is put in the journal, and nothing else.
-    fn begins(&mut self, head: &Head) -> Result<(), Unkept>
+    fn begins(&mut self, head: &Head) -> Result<(), JournalFailed>
         requires { IsDigest head.now.digits }
         ensures kept { KeepsAll (held_by W.held self.old.journal) (held_by W.held self.new.journal)
             (room_text head.now) result }

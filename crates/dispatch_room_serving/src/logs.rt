@@ -6,10 +6,10 @@ ghost use Rattle.dispatch_room_serving.specs.LoggedLines.{Logs, PutsAll, PutsLin
 ghost use Rattle.dispatch_room_serving.specs.Logs.{asked_by};
 
 use crate::log_lines::{Asker, LogLine, RefusedBody, Request, Visible, path_of, utc};
-use dispatch_room_cli::failure_causes::Explainer;
+use dispatch_room_exit::failure_causes::Explainer;
 use dispatch_room_journal::answer_statuses::status_in;
 use room_http::arrivals::Arrived;
-use room_http::observers::{Asked, Observer, Unkept};
+use room_http::observers::{Asked, JournalFailed, Observer};
 use room_http_requests::body_faults::{BodyFault, fault_of};
 use room_http_requests::router::Routes;
 use room_types::numbers::Moment;
@@ -168,12 +168,12 @@ impl<'a, E: Write, T: Clock> Observer for Log<'a, E, T> {
     ghost notes = { λ old new asked answer. Logs old.goes_on new.goes_on (E.contents old.out.now)
         (E.contents new.out.now) asked answer };
 
-    fn arrived(&mut self, _arrived: &Arrived<'_>, _at: Moment) -> Result<(), Unkept> {
+    fn arrived(&mut self, _arrived: &Arrived<'_>, _at: Moment) -> Result<(), JournalFailed> {
         self.begin();
         Ok(())
     }
 
-    fn answering(&mut self, _arrived: &Arrived<'_>, _answer: &[u8]) -> Result<(), Unkept> {
+    fn answering(&mut self, _arrived: &Arrived<'_>, _answer: &[u8]) -> Result<(), JournalFailed> {
         Ok(())
     }
 

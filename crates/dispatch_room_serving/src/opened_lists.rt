@@ -4,20 +4,20 @@
 //! stands before a change's mark is, if there is one.
 ghost use Rattle.std.specs.Prelude.{◌≡◌, ◌+◌, ℕ, List, [], ◌∷◌, false, is_ok, min, IfErr, IfOk};
 ghost use Rattle.std.specs.Prelude.{◌⊎◌, MatchResult, Option, Some, option_map, take};
-ghost use Rattle.dispatch_room_cli.specs.declared.exit_status.Failure.TheVariants.{Journal, Memory};
+ghost use Rattle.dispatch_room_exit.specs.declared.exit_status.Failure.TheVariants.{Journal};
+ghost use Rattle.dispatch_room_exit.specs.declared.exit_status.Failure.TheVariants.{Memory};
 ghost use Rattle.room_http_messages.specs.Streams.{Grows};
 ghost use Rattle.dispatch_room_journal.specs.WholeEntries.{EndsWhole};
 ghost use Rattle.dispatch_room_journal.specs.declared.whole_records.ListForm.TheVariants.{Chain};
 ghost use Rattle.dispatch_room_journal.specs.declared.whole_records.ListForm.TheVariants.{Plain};
 ghost use Rattle.dispatch_room_serving.specs.Journals.{IsUnread};
 ghost use Rattle.dispatch_room_serving.specs.OpenedLists.{Clears, FindsMarked, IsFound};
-ghost use Rattle.dispatch_room_serving.specs.OpenedLists.{IsListFault, IsUnfound, IsWholeAs};
-ghost use Rattle.dispatch_room_serving.specs.OpenedLists.{Opens, Step, begun, copied, cut};
-ghost use Rattle.dispatch_room_serving.specs.OpenedLists.{goes_on_at, marked_in, settled};
-ghost use Rattle.dispatch_room_serving.specs.OpenedLists.{unmarked};
+ghost use Rattle.dispatch_room_serving.specs.OpenedLists.{IsListFault, IsUnfound, IsWholeAs, Opens};
+ghost use Rattle.dispatch_room_serving.specs.OpenedLists.{Step, begun, copied, cut, goes_on_at};
+ghost use Rattle.dispatch_room_serving.specs.OpenedLists.{marked_in, settled, unmarked};
 
-use dispatch_room_cli::exit_status::Failure;
-use dispatch_room_cli::failure_causes::Explainer;
+use dispatch_room_exit::exit_status::Failure;
+use dispatch_room_exit::failure_causes::Explainer;
 use dispatch_room_journal::entry_reader::EntryFault;
 use dispatch_room_journal::journal_inbox::JournalInbox;
 use dispatch_room_journal::list_ends::ListEnd;

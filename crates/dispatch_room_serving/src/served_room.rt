@@ -1,6 +1,6 @@
 //! The room of a database, opened and served to those who call.
 ghost use Rattle.std.specs.Prelude.{◌≡◌, ◌&&◌, false, true, IfErr, IfOk, MatchResult, None, OnErr};
-ghost use Rattle.dispatch_room_cli.specs.declared.exit_status.Failure.TheVariants.{Journal};
+ghost use Rattle.dispatch_room_exit.specs.declared.exit_status.Failure.TheVariants.{Journal};
 ghost use Rattle.room_store.specs.StoredRoom.{IsReady};
 ghost use Rattle.dispatch_room_tasks.specs.OpenedRoom.{IsUnopened};
 ghost use Rattle.dispatch_room_serving.specs.Callers.{Prints};
@@ -11,12 +11,12 @@ use crate::callers::Callers;
 use crate::connections::serve_each;
 use crate::journal_observers::JournalObserver;
 use crate::list_places::ListPlace;
-use dispatch_room_cli::exit_status::{Done, Failure, refused};
+use dispatch_room_exit::exit_status::{Done, Failure, refused};
 use dispatch_room_journal::journal_digests::digest_of;
 use dispatch_room_tasks::opened_room::{TaskResult, open_room};
 use room_http::clocks::Clock;
 use room_http::handlers::Handler;
-use room_http::settings::Setting;
+use room_http::settings::HttpSettings;
 use room_model::digests::{Head, Version};
 use room_store::store::Store;
 use room_store::store_digest::digest_of_room;
@@ -25,7 +25,7 @@ use std::alloc::Global;
 
 /// What is served of a room.
 #[derive(Clone, Copy)]
-pub struct Terms {
+pub struct ServiceLimits {
     /// How many calls are served.
     pub connections: u64,
     /// Whether the paths of history are served.
@@ -34,17 +34,17 @@ pub struct Terms {
     pub renews: bool,
 }
 
-/// A part of what is served: on which terms, and the place of its list, if that may end it.
+/// A part of what is served: within which limits, and the place of its list, if that may end it.
 #[derive(Clone, Copy)]
 pub struct ServedPart<'a> {
-    pub terms: Terms,
+    pub limits: ServiceLimits,
     pub place: Option<ListPlace<'a>>,
 }
 
-/// Serves the room of a database to as many calls as the terms say. The room is opened, the
+/// Serves the room of a database to as many calls as the limits say. The room is opened, the
 /// observer is given its digest if it wants it, and the callers begin; then each call is served
 /// from the room that the one before left, in the zone of the room's plan, with the paths of
-/// history or without. If no room is opened, no call is heard. If the terms say so (`renews`),
+/// history or without. If no room is opened, no call is heard. If the limits say so (`renews`),
 /// serving ends early once a look at the place of the list finds it moved or truncated, and only
 /// then.
 pub fn serve_in<S: Alter + Drop, P: Callers, C: Clock, N: JournalObserver>(
@@ -58,7 +58,7 @@ pub fn serve_in<S: Alter + Drop, P: Callers, C: Clock, N: JournalObserver>(
     requires outside { conn.in_transaction ≡ false }
     ensures outside { IfOk result (λ worked. worked.1.in_transaction ≡ false) }
     ensures served { IfOk result (ServesRoom S.Store (N.wants journal_observer.old) N.begun N.came
-        N.response part.old.terms.history conn
+        N.response part.old.limits.history conn
         (λ store. record {
           heard = P.heard callers.old;
           written = P.written callers.old;
@@ -79,7 +79,7 @@ pub fn serve_in<S: Alter + Drop, P: Callers, C: Clock, N: JournalObserver>(
             store = store;
           };
         })
-        (part.old.terms.renews && has_left part.new.place) part.old.terms.connections) }
+        (part.old.limits.renews && has_left part.new.place) part.old.limits.connections) }
     ensures prints { IfOk result (λ worked.
         Prints (P.prints callers.old) (P.prints callers.new) worked.0) }
     ensures unheard { OnErr result ((callers.new ≡ callers.old) × (clock.new ≡ clock.old)) }
@@ -87,9 +87,9 @@ pub fn serve_in<S: Alter + Drop, P: Callers, C: Clock, N: JournalObserver>(
     ensures none { part.old.place ≡ None → part.new.place ≡ None }
 {
     let (mut room, zone) = open_room(alloc, conn)?;
-    let setting = Setting {
+    let setting = HttpSettings {
         zone,
-        history: part.terms.history,
+        history: part.limits.history,
     };
     match Handler::new(alloc, setting) {
         Ok(handler) => {
@@ -140,7 +140,7 @@ fn begin_and_serve<S: Alter, P: Callers, C: Clock, N: JournalObserver>(
             store = room.new;
           };
         })
-        (part.old.terms.renews && has_left part.new.place) part.old.terms.connections result }
+        (part.old.limits.renews && has_left part.new.place) part.old.limits.connections result }
     ensures prints { Prints (P.prints callers.old) (P.prints callers.new) result }
     ensures none { part.old.place ≡ None → part.new.place ≡ None }
 {

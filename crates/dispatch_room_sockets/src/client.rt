@@ -7,7 +7,7 @@ use crate::monotonic_clocks::MonotonicClock;
 use crate::socket_readers::SocketReader;
 use crate::socket_writers::SocketWriter;
 use crate::timeouts::Waits;
-use dispatch_room_cli::failure_causes::Explainer;
+use dispatch_room_exit::failure_causes::Explainer;
 use std::io::{self, Error, ErrorKind};
 use std::net::{OpenStream, TcpStream, ToSocketAddrs};
 use std::time::Duration;

@@ -371,7 +371,8 @@ asker_lasts e = record {
       (λ c there. put_there c r.vehicles (new_vehicle row) there) h;
   planned = λ file r agrees h.
       still_for e.who e.ask r (replanned file.plan.areas r) (nothing_lacking file.plan.areas r.plan agrees)
-      (λ c there. ap (λ (s : Room). is_some (row_at callsign_cmp vehicle_key s.vehicles c)) (is_beside file.plan r) ∙ there)
+      (λ c there.
+      ap (λ (s : Room). is_some (row_at callsign_cmp vehicle_key s.vehicles c)) (is_beside file.plan r) ∙ there)
       h;
 }
 

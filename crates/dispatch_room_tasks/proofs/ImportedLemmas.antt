@@ -7,8 +7,8 @@ use Rattle.room_types.specs.declared.fleet.Terminal.{Terminal}
 use Rattle.room_model.specs.Room.{Room}
 use Rattle.room_store.specs.FleetEnrolment.{HasEnrolled}
 use Rattle.room_store.specs.declared.store.Store.{Store}
-use Rattle.dispatch_room_cli.specs.declared.exit_status.Done.{Done}
-use Rattle.dispatch_room_cli.specs.declared.exit_status.Failure.{Failure}
+use Rattle.dispatch_room_exit.specs.declared.exit_status.Done.{Done}
+use Rattle.dispatch_room_exit.specs.declared.exit_status.Failure.{Failure}
 use Rattle.dispatch_room_csv.specs.declared.fleet_file.FleetLine.{FleetLine}
 use Rattle.dispatch_room_tasks.specs.RowOutcomes.{good_rows}
 use Rattle.dispatch_room_tasks.specs.Enrolment.{HasImported, HasPrinted}

@@ -299,7 +299,8 @@ module _ (r : Room) (areas : List Area) (ds : List Division) where
 
 -- ---- the room with the new plan
 module _ (plan : Layout) (r : Room) where
-  pub is_beside : replanned plan.areas r ≡ record r { plan = plan.areas; divisions = fill r.plan plan.areas r.divisions }
+  pub is_beside : replanned plan.areas r
+      ≡ record r { plan = plan.areas; divisions = fill r.plan plan.areas r.divisions }
   is_beside = ap (λ (s : Room). record s { plan = plan.areas }) (applied r.plan plan.areas r)
 
   module _ (agrees : first_lacking r.plan plan.areas ≡ None) where

@@ -20,9 +20,9 @@ use Rattle.room_store_writes.specs.TerminalChanges.{Explains, Gives, fault_in}
 use Rattle.room_store_writes.specs.TerminalHolders.{terminals_by}
 use Rattle.room_store_writes.specs.declared.change_faults.ChangeFault.{ChangeFault}
 use Rattle.room_store_writes.specs.declared.change_faults.ChangeFault.TheVariants as why
-use Rattle.dispatch_room_cli.specs.declared.exit_status.Failure.{Failure}
-use Rattle.dispatch_room_cli.specs.declared.exit_status.Failure.TheVariants.{Division, Input}
-use Rattle.dispatch_room_cli.specs.declared.exit_status.Failure.TheVariants.{Memory, Storage}
+use Rattle.dispatch_room_exit.specs.declared.exit_status.Failure.{Failure}
+use Rattle.dispatch_room_exit.specs.declared.exit_status.Failure.TheVariants.{Division, Input}
+use Rattle.dispatch_room_exit.specs.declared.exit_status.Failure.TheVariants.{Memory, Storage}
 use Rattle.room_tables_schema.specs.FileConnections.{HasRoomSchema, IsClean}
 
 -- how the program reports why terminals were not changed

@@ -13,10 +13,10 @@ use Rattle.room_store.specs.declared.store_creation.CreateFault.{CreateFault}
 use Rattle.room_store_writes.specs.NewRoom.{StandsNew, division_numbers}
 use Rattle.room_store_writes.specs.Transactions.{StandsSettled}
 use Rattle.dispatch_room_tasks.specs.OpeningFaults.{create_fault}
-use Rattle.dispatch_room_cli.specs.declared.exit_status.Done.{Done}
-use Rattle.dispatch_room_cli.specs.declared.exit_status.Done.TheVariants.{Whole}
-use Rattle.dispatch_room_cli.specs.declared.exit_status.Failure.{Failure}
-use Rattle.dispatch_room_cli.specs.declared.exit_status.Failure.TheVariants.{Network}
+use Rattle.dispatch_room_exit.specs.declared.exit_status.Done.{Done}
+use Rattle.dispatch_room_exit.specs.declared.exit_status.Done.TheVariants.{Whole}
+use Rattle.dispatch_room_exit.specs.declared.exit_status.Failure.{Failure}
+use Rattle.dispatch_room_exit.specs.declared.exit_status.Failure.TheVariants.{Network}
 use Rattle.dispatch_room_csv.specs.declared.plan_file.PlanFile.{PlanFile}
 use Rattle.room_tables_schema.specs.FileConnections.{IsClean}
 

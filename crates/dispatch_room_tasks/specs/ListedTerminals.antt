@@ -20,11 +20,11 @@ use Rattle.room_tables.specs.RoomsInTables.{Stands}
 use Rattle.room_store_writes.specs.Configurations.{config_of}
 use Rattle.room_store_writes.specs.Transactions.{Leaves}
 use Rattle.room_store_file.specs.OpenedFile.{KeepsFile, MayBeIndexed}
-use Rattle.dispatch_room_cli.specs.declared.exit_status.Done.{Done}
-use Rattle.dispatch_room_cli.specs.declared.exit_status.Done.TheVariants.{Whole}
-use Rattle.dispatch_room_cli.specs.declared.exit_status.Failure.{Failure}
-use Rattle.dispatch_room_cli.specs.declared.exit_status.Failure.TheVariants.{Memory, Network}
-use Rattle.dispatch_room_cli.specs.declared.exit_status.Failure.TheVariants.{Storage}
+use Rattle.dispatch_room_exit.specs.declared.exit_status.Done.{Done}
+use Rattle.dispatch_room_exit.specs.declared.exit_status.Done.TheVariants.{Whole}
+use Rattle.dispatch_room_exit.specs.declared.exit_status.Failure.{Failure}
+use Rattle.dispatch_room_exit.specs.declared.exit_status.Failure.TheVariants.{Memory, Network}
+use Rattle.dispatch_room_exit.specs.declared.exit_status.Failure.TheVariants.{Storage}
 use Rattle.dispatch_room_tasks.specs.declared.listed_terminals.Listed.{Listed}
 use Rattle.dispatch_room_tasks.specs.declared.listed_terminals.Listed.TheVariants.{Crew, Desk}
 use Rattle.dispatch_room_tasks.specs.declared.listed_terminals.Listed.TheVariants.{Position}

@@ -17,8 +17,8 @@ use Rattle.room_store_file.specs.declared.opened_file.OpenFault.{OpenFault}
 use Rattle.room_store_file.specs.declared.opened_file.OpenFault.TheVariants.{NotARoom, OtherVersion}
 use Rattle.room_store_file.specs.declared.opened_file.OpenFault.TheVariants.{Storage}
 use Rattle.room_store_writes.specs.Transactions.{Leaves}
-use Rattle.dispatch_room_cli.specs.declared.exit_status.Failure.{Failure}
-use Rattle.dispatch_room_cli.specs.declared.exit_status.Failure.TheVariants.{File}
+use Rattle.dispatch_room_exit.specs.declared.exit_status.Failure.{Failure}
+use Rattle.dispatch_room_exit.specs.declared.exit_status.Failure.TheVariants.{File}
 use Rattle.dispatch_room_tasks.specs.OpeningFaults.{open_fault}
 use Rattle.room_tables_schema.specs.FileConnections.{IsClean}
 

@@ -3,9 +3,9 @@ use Rattle.room_store.specs.declared.store_creation.CreateFault.{CreateFault}
 use Rattle.room_store.specs.declared.store_creation.CreateFault.TheVariants as create
 use Rattle.room_store_file.specs.declared.opened_file.OpenFault.{OpenFault}
 use Rattle.room_store_file.specs.declared.opened_file.OpenFault.TheVariants as opening
-use Rattle.dispatch_room_cli.specs.declared.exit_status.Failure.{Failure}
-use Rattle.dispatch_room_cli.specs.declared.exit_status.Failure.TheVariants.{File, Input, Memory}
-use Rattle.dispatch_room_cli.specs.declared.exit_status.Failure.TheVariants.{Storage, Version}
+use Rattle.dispatch_room_exit.specs.declared.exit_status.Failure.{Failure}
+use Rattle.dispatch_room_exit.specs.declared.exit_status.Failure.TheVariants.{File, Input, Memory}
+use Rattle.dispatch_room_exit.specs.declared.exit_status.Failure.TheVariants.{Storage, Version}
 
 -- where a room is created; a plan that was read has sound terminals
 abbrev pub create_fault : CreateFault → Failure

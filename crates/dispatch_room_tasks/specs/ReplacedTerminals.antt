@@ -24,8 +24,8 @@ use Rattle.room_store_writes.specs.Configurations.{config_of}
 use Rattle.room_store_writes.specs.NewRoom.{put_all}
 use Rattle.room_store_writes.specs.TerminalHolders.{has_token, is_token_of, may_have, same_who}
 use Rattle.room_store_writes.specs.Transactions.{IsSettled, Leaves, StandsSettled}
-use Rattle.dispatch_room_cli.specs.declared.exit_status.Failure.{Failure}
-use Rattle.dispatch_room_cli.specs.declared.exit_status.Failure.TheVariants as failure
+use Rattle.dispatch_room_exit.specs.declared.exit_status.Failure.{Failure}
+use Rattle.dispatch_room_exit.specs.declared.exit_status.Failure.TheVariants as failure
 use Rattle.dispatch_room_tasks.specs.declared.replacement_faults.ReplaceFault.{ReplaceFault}
 use Rattle.dispatch_room_tasks.specs.declared.replacement_faults.ReplaceFault.TheVariants.{Memory}
 use Rattle.dispatch_room_tasks.specs.declared.replacement_faults.ReplaceFault.TheVariants.{Row}

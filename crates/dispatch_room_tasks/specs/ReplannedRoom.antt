@@ -19,8 +19,8 @@ use Rattle.room_store_file.specs.OpenedFile.{KeepsFile, MayBeIndexed}
 use Rattle.room_store_writes.specs.Configurations.{config_of}
 use Rattle.room_store_writes.specs.NewRoom.{new_division}
 use Rattle.room_store_writes.specs.Transactions.{IsSettled, Leaves, StandsSettled}
-use Rattle.dispatch_room_cli.specs.declared.exit_status.Failure.{Failure}
-use Rattle.dispatch_room_cli.specs.declared.exit_status.Failure.TheVariants as failure
+use Rattle.dispatch_room_exit.specs.declared.exit_status.Failure.{Failure}
+use Rattle.dispatch_room_exit.specs.declared.exit_status.Failure.TheVariants as failure
 use Rattle.dispatch_room_csv.specs.declared.plan_file.PlanFile.{PlanFile}
 use Rattle.dispatch_room_tasks.specs.ReplacedTerminals as terminals
 use Rattle.dispatch_room_tasks.specs.ReplacedTerminals.{AreFree, ExplainsRow, replaced_by}

@@ -8,8 +8,8 @@ use Rattle.room_types.specs.declared.fleet.RowFate.{RowFate}
 use Rattle.room_types.specs.declared.fleet.RowFate.TheVariants.{Added, Refused, Same}
 use Rattle.dispatch_room_csv.specs.declared.fleet_file.FleetLine.{FleetLine}
 use Rattle.dispatch_room_csv.specs.declared.fleet_file.FleetLine.TheVariants.{Bad, Row}
-use Rattle.dispatch_room_cli.specs.declared.exit_status.Done.{Done}
-use Rattle.dispatch_room_cli.specs.declared.exit_status.Done.TheVariants.{InPart, Whole}
+use Rattle.dispatch_room_exit.specs.declared.exit_status.Done.{Done}
+use Rattle.dispatch_room_exit.specs.declared.exit_status.Done.TheVariants.{InPart, Whole}
 
 -- the vehicle of a good row
 abbrev pub row_in : FleetLine → Option FleetRow

@@ -11,7 +11,7 @@ ghost use Rattle.dispatch_room_tasks.specs.ChangedTerminals.{HasChanged, failure
 
 use crate::opened_room::TaskResult;
 use crate::opening_faults::of_opening;
-use dispatch_room_cli::exit_status::Failure;
+use dispatch_room_exit::exit_status::Failure;
 use room_place::plans::Plan;
 use room_store_file::opened_file::open_in;
 use room_store_writes::change_faults::{ChangeFault, TokenChange};

@@ -6,8 +6,8 @@ ghost use Rattle.dispatch_room_tasks.specs.Creation.{division_count};
 
 use crate::opened_room::TaskResult;
 use crate::opening_faults::of_creating;
-use dispatch_room_cli::exit_status::{Done, Failure};
 use dispatch_room_csv::plan_file::PlanFile;
+use dispatch_room_exit::exit_status::{Done, Failure};
 use room_place::plans::{DivisionNumber, Plan};
 use room_store::store::Store;
 use sqlite::{Alter, Connection};

@@ -7,7 +7,7 @@ ghost use Rattle.room_model.specs.Room.{Room};
 ghost use Rattle.room_tables.specs.RoomsInTables.{Configuration, Stands};
 ghost use Rattle.room_tables_schema.specs.FileConnections.{HasRoomSchema, IsClean};
 ghost use Rattle.room_store_writes.specs.Transactions.{Leaves};
-ghost use Rattle.dispatch_room_cli.specs.declared.exit_status.Done.TheVariants.{Whole};
+ghost use Rattle.dispatch_room_exit.specs.declared.exit_status.Done.TheVariants.{Whole};
 ghost use Rattle.dispatch_room_tasks.specs.OpenedRoom.{HoldsNone};
 ghost use Rattle.dispatch_room_tasks.specs.ListedTerminals.{HasListed, IsMachines, IsListing};
 ghost use Rattle.dispatch_room_tasks.specs.ListedTerminals.{Prints, line_text, lines_text};
@@ -15,7 +15,7 @@ ghost use Rattle.dispatch_room_tasks.specs.ListedTerminals.{listed_of};
 
 use crate::opened_room::TaskResult;
 use crate::opening_faults::of_opening;
-use dispatch_room_cli::exit_status::{Done, Failure};
+use dispatch_room_exit::exit_status::{Done, Failure};
 use room_place::plans::DivisionNumber;
 use room_store_file::opened_file::open_in;
 use room_store_writes::terminal_list::list;

@@ -7,7 +7,7 @@ ghost use Rattle.dispatch_room_tasks.specs.OpenedRoom.{IsUnopened, OpensRoom};
 ghost use Rattle.room_tables_schema.specs.FileConnections.{IsClean};
 
 use crate::opening_faults::of_opening;
-use dispatch_room_cli::exit_status::Failure;
+use dispatch_room_exit::exit_status::Failure;
 use room_http_time::zones::Zone;
 use room_store::store::Store;
 use sqlite::{Alter, Connection};

@@ -2,7 +2,7 @@
 ghost use Rattle.std.specs.Prelude.{◌≡◌};
 ghost use Rattle.dispatch_room_tasks.specs.OpeningFaults.{create_fault, open_fault};
 
-use dispatch_room_cli::exit_status::Failure;
+use dispatch_room_exit::exit_status::Failure;
 use room_store::store_creation::CreateFault;
 use room_store_file::opened_file::OpenFault;
 

@@ -1,7 +1,7 @@
 //! Why a row of a list of terminals is refused, in words.
 
 use crate::replacement_faults::{ReplaceFault, RowFault};
-use dispatch_room_cli::failure_causes::Explainer;
+use dispatch_room_exit::failure_causes::Explainer;
 use room_types::asks::Who;
 use room_types::fleet::Terminal;
 

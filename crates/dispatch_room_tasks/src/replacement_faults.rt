@@ -7,7 +7,7 @@ ghost use Rattle.dispatch_room_tasks.specs.ReplacedTerminals.{AreFree, IsFirstFa
 ghost use Rattle.dispatch_room_tasks.specs.ReplacedTerminals.{is_kept, is_listed, is_second};
 ghost use Rattle.dispatch_room_tasks.specs.ReplacedTerminals.{lack_of, row_fault, unknown_fault};
 
-use dispatch_room_cli::exit_status::Failure;
+use dispatch_room_exit::exit_status::Failure;
 use room_place::plans::Plan;
 use room_store_writes::terminal_holders::{has_token, is_same, may_have};
 use room_tables_schema::database_faults::Fault;

@@ -8,7 +8,7 @@ ghost use Rattle.dispatch_room_tasks.specs.declared.replacement_faults.ReplaceFa
 ghost use Rattle.dispatch_room_tasks.specs.declared.replanning_faults.ReplanFault.TheVariants.{Terminals};
 
 use crate::replacement_faults::{ReplaceFault, failure_of as terminals_failure};
-use dispatch_room_cli::exit_status::Failure;
+use dispatch_room_exit::exit_status::Failure;
 use room_place::plans::{Area, Plan};
 use room_tables_schema::database_faults::Fault;
 use sqlite::Error;

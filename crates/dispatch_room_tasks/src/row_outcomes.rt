@@ -4,8 +4,8 @@ ghost use Rattle.std.specs.Io.KnownBytes.{Appends};
 ghost use Rattle.dispatch_room_tasks.specs.RowOutcomes.{done_by, fate_text, fates_text, good_rows};
 ghost use Rattle.dispatch_room_tasks.specs.RowOutcomes.{is_enrolled, outcomes, row_in};
 
-use dispatch_room_cli::exit_status::Done;
 use dispatch_room_csv::fleet_file::FleetLine;
+use dispatch_room_exit::exit_status::Done;
 use room_types::fleet::{FleetRow, RowFate};
 use std::alloc::{AllocError, Global};
 use std::io::{self, Write};

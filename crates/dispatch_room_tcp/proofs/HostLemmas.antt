@@ -4,7 +4,7 @@ use Rattle.sqlite.specs.Files.{over_files}
 use Rattle.sqlite.specs.Held.{Held}
 use Rattle.sqlite_disk.specs.declared.Disk.{Ghosts as Disk}
 use Rattle.sqlite_store.specs.declared.store.FileStore.{FileStore}
-use Rattle.dispatch_room_cli.specs.declared.exit_status.Failure.{Failure}
+use Rattle.dispatch_room_exit.specs.declared.exit_status.Failure.{Failure}
 use Rattle.dispatch_room_disk.specs.CommandSteps.{at}
 use Rattle.dispatch_room_disk.specs.FileSteps.{Does}
 use Rattle.dispatch_room_disk.specs.RoomFiles.{Closes, Doing, IsConnected, Place}
@@ -12,7 +12,8 @@ use Rattle.dispatch_room_tcp.specs.Hosts.{Effect, Works, closed, opened, tables_
 
 -- it was done
 pub works : {D F T : Type 0} {g : Disk D} {place : Place} {printed shown : Option (List ℕ)}
-    {first new : Option (List (Effect F))} (does : Doing T) (old : Option (List (Effect F))) (conn : Held (FileStore D g))
+    {first new : Option (List (Effect F))} (does : Doing T) (old : Option (List (Effect F)))
+    (conn : Held (FileStore D g))
     (worked : Result (Result T Failure × Held (FileStore D g)) Failure) (came : Result T Failure)
     → IsConnected conn → Does (opened place (Ok (tables_of conn)) ∷ []) first old
     → does (FileStore D g) over_files conn printed shown worked → Closes worked came

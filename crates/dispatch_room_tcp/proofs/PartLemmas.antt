@@ -3,8 +3,8 @@ use Rattle.std.proofs.Common.{◌≡◌, ◌⊎◌, ◌+◌, arith, length, refl
 use Rattle.std.proofs.Common.{Bool, true, false, Option, None, Some, Result, Ok, Err}
 use Rattle.std.specs.Prelude.{List, OnErr, is_err, not, ◌&&◌}
 use Rattle.sqlite_trees.specs.declared.store.Store.{Ghosts}
-use Rattle.dispatch_room_cli.specs.declared.exit_status.Done.{Done}
-use Rattle.dispatch_room_cli.specs.declared.exit_status.Failure.{Failure}
+use Rattle.dispatch_room_exit.specs.declared.exit_status.Done.{Done}
+use Rattle.dispatch_room_exit.specs.declared.exit_status.Failure.{Failure}
 use Rattle.dispatch_room_serving.specs.Callers.{MayCall, Printing, Prints}
 use Rattle.dispatch_room_serving.specs.Journals.{EndsAfter}
 use Rattle.dispatch_room_journal.specs.declared.list_ends.ListEnd.{ListEnd}
@@ -64,13 +64,13 @@ module _ {S F : Type 0} (g : Ghosts S) (manner : Manner F) where
   first_before first = record { earlier = []; are = refl; only = λ once. refl }
 
   abbrev pub first_part : (first last : Standpoint F S) (result : Result Done Failure) → last.done ≡ first.done
-      → IsPart g manner.watch manner.terms manner.first first.interval last.interval result
+      → IsPart g manner.watch manner.limits manner.first first.interval last.interval result
       → EndsPart g manner first last result
   first_part first last result same is =
       record { at = first; before = first_before first; list = manner.first; listed = (refl, same); is = is }
 
   -- after a part that ended well another begins
-  pub next_before : (first now : Standpoint F S) (result : Result Done Failure) → manner.terms.renews ≡ true
+  pub next_before : (first now : Standpoint F S) (result : Result Done Failure) → manner.limits.renews ≡ true
       → is_err result ≡ false → (part : EndsPart g manner first now result)
       → (next : PartsBefore g manner first now)
       × (length next.earlier ≡ length part.before.earlier + 1)
@@ -88,9 +88,9 @@ module _ {S F : Type 0} (g : Ghosts S) (manner : Manner F) where
   next_before first now (Err fault) renews well part = absurd (cc)
 
   -- where one part is all, it is the last
-  pub ends_once : (first last : Standpoint F S) (result : Result Done Failure) → manner.terms.renews ≡ false
+  pub ends_once : (first last : Standpoint F S) (result : Result Done Failure) → manner.limits.renews ≡ false
       → last.done ≡ first.done
-      → IsPart g manner.watch manner.terms manner.first first.interval last.interval result
+      → IsPart g manner.watch manner.limits manner.first first.interval last.interval result
       → EndsLast g manner first last result
   ends_once first last result once same is = record {
     part = first_part first last result same is;

@@ -7,8 +7,8 @@ use Rattle.sqlite.specs.Held.{Held, state}
 use Rattle.sqlite_disk.specs.declared.Disk.{Ghosts as Disk}
 use Rattle.sqlite_store.specs.declared.store.FileStore.{FileStore}
 use Rattle.sqlite_trees.specs.Tree.{Trees}
-use Rattle.dispatch_room_cli.specs.declared.exit_status.Failure.{Failure}
-use Rattle.dispatch_room_cli.specs.declared.exit_status.Failure.TheVariants as failure
+use Rattle.dispatch_room_exit.specs.declared.exit_status.Failure.{Failure}
+use Rattle.dispatch_room_exit.specs.declared.exit_status.Failure.TheVariants as failure
 use Rattle.dispatch_room_disk.specs.CommandSteps.{Stand, Step, Then, Tries}
 use Rattle.dispatch_room_disk.specs.FileSteps.{Does}
 use Rattle.dispatch_room_disk.specs.ReplacingSteps.{Step as Call}

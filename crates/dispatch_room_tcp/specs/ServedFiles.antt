@@ -8,9 +8,9 @@ use Rattle.sqlite_disk.specs.declared.Disk.{Ghosts as Disk}
 use Rattle.sqlite_trees.specs.declared.store.Store.{Ghosts}
 use Rattle.dispatch_room_disk.specs.CommandSteps.{Gives, Stand, Then}
 use Rattle.dispatch_room_disk.specs.RoomFiles.{there}
-use Rattle.dispatch_room_cli.specs.declared.exit_status.Done.{Done}
-use Rattle.dispatch_room_cli.specs.declared.exit_status.Failure.{Failure}
-use Rattle.dispatch_room_cli.specs.declared.exit_status.Failure.TheVariants.{Network}
+use Rattle.dispatch_room_exit.specs.declared.exit_status.Done.{Done}
+use Rattle.dispatch_room_exit.specs.declared.exit_status.Failure.{Failure}
+use Rattle.dispatch_room_exit.specs.declared.exit_status.Failure.TheVariants.{Network}
 use Rattle.dispatch_room_cli.specs.declared.tasks.Journal.{Journal}
 use Rattle.dispatch_room_cli.specs.declared.tasks.Service.{Service}
 use Rattle.dispatch_room_journal.specs.declared.list_ends.ListEnd.{ListEnd}
@@ -19,7 +19,7 @@ use Rattle.dispatch_room_tcp.specs.ServedParts.{Manner, OpensFor, OpensNoPart, S
 use Rattle.dispatch_room_tcp.specs.ServedParts.{Standing, Watch}
 use Rattle.dispatch_room_tcp.specs.declared.serve.Served.{Served}
 use Rattle.dispatch_room_serving.specs.Callers.{Opening, PrintsStart}
-use Rattle.dispatch_room_serving.specs.declared.served_room.Terms.{Terms}
+use Rattle.dispatch_room_serving.specs.declared.served_room.ServiceLimits.{ServiceLimits}
 use Rattle.dispatch_room_tcp.specs.declared.listeners.TcpAddress.{TcpAddress}
 use Rattle.dispatch_room_tcp.specs.SystemDoors.{SystemDoor}
 
@@ -27,10 +27,10 @@ use Rattle.dispatch_room_tcp.specs.SystemDoors.{SystemDoor}
 abbrev pub is_endless : Service → Bool
 is_endless service = service.connections == 18446744073709551615
 
--- On which terms a service serves its room. A part may end before all calls came if the service
+-- Within which limits a service serves its room. A part may end before all calls came if the service
 -- goes on until it is stopped, and keeps a journal.
-abbrev pub terms_of : Service → Terms
-terms_of service = record {
+abbrev pub limits_of : Service → ServiceLimits
+limits_of service = record {
   connections = service.connections;
   history = service.history;
   renews = is_endless service && is_some service.journal;
@@ -131,7 +131,7 @@ abbrev pub manner_of : {F : Type 0} → (F → Option (List ℕ)) → Service �
     → Manner F
 manner_of contents service first = record {
   watch = watch_of contents (is_some first) service;
-  terms = terms_of service;
+  limits = limits_of service;
   first = first;
   journal = if is_some first then service.journal else None;
 }

@@ -4,9 +4,9 @@ use Rattle.std.specs.Prelude.{◌≡◌, ◌⊎◌, ℕ, List, [], ◌∷◌, Bo
 use Rattle.std.specs.Prelude.{Result, None, Ok, Err, Some, ◌≢◌, ◌&&◌, is_some, length}
 use Rattle.sqlite.specs.Held.{Held}
 use Rattle.sqlite_trees.specs.declared.store.Store.{Ghosts}
-use Rattle.dispatch_room_cli.specs.declared.exit_status.Done.{Done}
-use Rattle.dispatch_room_cli.specs.declared.exit_status.Failure.{Failure}
-use Rattle.dispatch_room_cli.specs.declared.exit_status.Failure.TheVariants as failure
+use Rattle.dispatch_room_exit.specs.declared.exit_status.Done.{Done}
+use Rattle.dispatch_room_exit.specs.declared.exit_status.Failure.{Failure}
+use Rattle.dispatch_room_exit.specs.declared.exit_status.Failure.TheVariants as failure
 use Rattle.dispatch_room_journal.specs.JournalRecords.{answer_text, message_text, room_text}
 use Rattle.dispatch_room_journal.specs.declared.list_ends.ListEnd.{ListEnd}
 use Rattle.dispatch_room_serving.specs.Callers.{Opening}
@@ -18,7 +18,7 @@ use Rattle.dispatch_room_serving.specs.declared.journal_files.WrittenFile.{Writt
 use Rattle.dispatch_room_serving.specs.declared.journals.Journal.{Journal}
 use Rattle.dispatch_room_serving.specs.declared.list_places.Finding.{Finding}
 use Rattle.dispatch_room_serving.specs.declared.list_places.Finding.TheVariants.{There, Truncated}
-use Rattle.dispatch_room_serving.specs.declared.served_room.Terms.{Terms}
+use Rattle.dispatch_room_serving.specs.declared.served_room.ServiceLimits.{ServiceLimits}
 use Rattle.dispatch_room_tasks.specs.OpenedRoom.{IsUnopened}
 use Rattle.dispatch_room_disk.specs.CommandSteps.{Gives, Quietly, Then}
 use Rattle.dispatch_room_cli.specs.declared.tasks.Journal.{Journal as Asked}
@@ -67,7 +67,7 @@ pub record IsJournalOf {F : Type 0} (watch : Watch F) (list : Option (F × ListE
   pub of : IfSome journal (λ it. it.keeps_questions ≡ watch.keeps_questions)
   pub goes_on : IfSome journal (GoesOn list)
 
-module _ {S F : Type 0} (g : Ghosts S) (watch : Watch F) (terms : Terms) where
+module _ {S F : Type 0} (g : Ghosts S) (watch : Watch F) (limits : ServiceLimits) where
   -- A part was served, which is a start of the room's service, with a journal in this list or none,
   -- and ended so. If serving ended well, an end is put in the journal then, and not before, unless
   -- its list was truncated. No contract can say what a look finds at the place of the list; but
@@ -87,11 +87,11 @@ module _ {S F : Type 0} (g : Ghosts S) (watch : Watch F) (terms : Terms) where
     -- what the last look found: where a part may not end before all calls came, nothing is looked
     -- at, so its list counts as there, and is given its end
     pub found : Finding
-    pub once : terms.renews ≡ false → found ≡ There
+    pub once : limits.renews ≡ false → found ≡ There
     pub ended : watch.has_journal ≡ true → found ≢ Truncated
         → EndsAfter (puts_end (shown_in watch.contents)) later last served result
     pub cut : found ≡ Truncated → (result ≡ served) × (last ≡ later)
-    pub is : ServesRoom g watch.has_journal room_text message_text answer_text terms.history
+    pub is : ServesRoom g watch.has_journal room_text message_text answer_text limits.history
         old.conn (λ store. record {
           heard = old.heard;
           written = old.written;
@@ -112,17 +112,17 @@ module _ {S F : Type 0} (g : Ghosts S) (watch : Watch F) (terms : Terms) where
             store = store;
           };
         })
-        (terms.renews && has_left) terms.connections (served, new.conn)
+        (limits.renews && has_left) limits.connections (served, new.conn)
 
 -- where a service stands on such a machine
 abbrev pub Standpoint : Type 0 → Type 0 → Type 0
 Standpoint F S = Standing S (Effect F)
 
--- how a room is served: how its parts are observed, on which terms, with which list the first of
+-- how a room is served: how its parts are observed, within which limits, with which list the first of
 -- them begins, and for which journal a list is opened for each further one
 pub record Manner (F : Type 0) : Type 1 where
   pub watch : Watch F
-  pub terms : Terms
+  pub limits : ServiceLimits
   pub first : Option (F × ListEnd)
   pub journal : Option Asked
 
@@ -147,14 +147,14 @@ module _ {F : Type 0} where
     AreParts (at ∷ earlier) first now =
         AreParts earlier first at × (list : Option (F × ListEnd))
         × HasList manner earlier at.done now.done list
-        × (done : Done) × IsPart g manner.watch manner.terms list at.interval
+        × (done : Done) × IsPart g manner.watch manner.limits list at.interval
         now.interval (Ok done)
 
     -- before a part there were others only where a part may end before all calls came
     pub record PartsBefore (first at : Standpoint F S) : Type 0 where
       pub earlier : List (Standpoint F S)
       pub are : AreParts earlier first at
-      pub only : manner.terms.renews ≡ false → earlier ≡ []
+      pub only : manner.limits.renews ≡ false → earlier ≡ []
 
     -- a part ended so, after others
     pub record EndsPart (first last : Standpoint F S) (result : Result Done Failure) : Type 0 where
@@ -162,18 +162,18 @@ module _ {F : Type 0} where
       pub before : PartsBefore first at
       pub list : Option (F × ListEnd)
       pub listed : HasList manner before.earlier at.done last.done list
-      pub is : IsPart g manner.watch manner.terms list at.interval last.interval result
+      pub is : IsPart g manner.watch manner.limits list at.interval last.interval result
 
     -- The last part ended so. Where a part may end before all calls came, another follows each that
     -- ended well: so none that did is the last, but the last that a number of 64 bits can count.
     pub record EndsLast (first last : Standpoint F S) (result : Result Done Failure) : Type 0 where
       pub part : EndsPart first last result
-      pub followed : manner.terms.renews ≡ true → IsOk result
+      pub followed : manner.limits.renews ≡ true → IsOk result
           → length part.before.earlier ≡ 18446744073709551614
 
     -- no list was opened for a further part
     pub record HasNoList (first last : Standpoint F S) (result : Result Done Failure) : Type 0 where
-      pub renews : manner.terms.renews ≡ true
+      pub renews : manner.limits.renews ≡ true
       pub at : Standpoint F S
       pub before : PartsBefore first at
       pub fault : Failure

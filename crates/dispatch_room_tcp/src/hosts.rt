@@ -3,7 +3,7 @@ ghost use Rattle.std.specs.Prelude.{◌≡◌, ◌≢◌, ◌||◌, ◌==◌, �
 ghost use Rattle.std.specs.Prelude.{IfErr, IfOk, IfSome, map, option_map, ⊤};
 ghost use Rattle.std.specs.Duration.{as_nanos};
 ghost use Rattle.std.specs.IoError.{error_kind};
-ghost use Rattle.dispatch_room_cli.specs.declared.exit_status.Failure.TheVariants as failure;
+ghost use Rattle.dispatch_room_exit.specs.declared.exit_status.Failure.TheVariants as failure;
 ghost use Rattle.dispatch_room_disk.specs.FileSteps.{Does};
 ghost use Rattle.dispatch_room_disk.specs.ReplacingSteps.{Step};
 ghost use Rattle.dispatch_room_disk.specs.RoomFiles.{Closes, IsConnected, IsUnfound, place_of};
@@ -12,11 +12,11 @@ ghost use Rattle.dispatch_room_tcp.specs.HeardRooms.{IsHeard};
 ghost use Rattle.dispatch_room_tcp.specs.Hosts as effect;
 ghost use Rattle.dispatch_room_tcp.specs.Hosts.{Effect, IsUnlisted, IsUnread, known, tables_of};
 
-use dispatch_room_cli::exit_status::Failure;
-use dispatch_room_cli::failure_causes::Explainer;
 use dispatch_room_disk::restored_files::Replacing;
 use dispatch_room_disk::room_files::{self, RoomFile};
 use dispatch_room_disk::systems::System;
+use dispatch_room_exit::exit_status::Failure;
+use dispatch_room_exit::failure_causes::Explainer;
 use dispatch_room_journal::list_source::ListSource;
 use dispatch_room_serving::change_marks::ListOnDisk;
 use dispatch_room_serving::journal_files::{self, Lasting, OpenedList};
@@ -113,7 +113,7 @@ pub trait Machine {
     fn leave_list(&mut self, path: &str, list: &ListSource<Self::List>)
         ensures { Does (effect.left path.now
             (Self.List.has_failed list.now.reader || list.now.passed == most_rows)
-            (ends_well list.now.reel.mode) ∷ []) (done self.old) (done self.new) };
+            (ends_well list.now.cursor.mode) ∷ []) (done self.old) (done self.new) };
 
     /// Gives the calls by which a copy is put in the place of a file: none of them is made yet.
     fn calls(&mut self) -> Self::Calls

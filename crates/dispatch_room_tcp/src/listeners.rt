@@ -2,13 +2,13 @@
 ghost use Rattle.std.specs.Prelude.{◌≡◌, ℕ, List, [], ◌∷◌, Bool, None, Option, IfErr, IfSome, ◌↔◌};
 ghost use Rattle.std.specs.Prelude.{◌⊎◌, IsTrue, OnErr, OnOk, false, is_some, option_map, true};
 ghost use Rattle.std.specs.Net.Socket.{socket_ip, socket_port};
-ghost use Rattle.dispatch_room_cli.specs.declared.exit_status.Failure.TheVariants.{Network};
+ghost use Rattle.dispatch_room_exit.specs.declared.exit_status.Failure.TheVariants.{Network};
 ghost use Rattle.room_http_messages.specs.Streams.{Grows};
 ghost use Rattle.dispatch_room_serving.specs.Callers.{Opening};
 ghost use Rattle.dispatch_room_sockets.specs.LingeringClose.{Step};
 
-use dispatch_room_cli::exit_status::Failure;
-use dispatch_room_cli::failure_causes::Explainer;
+use dispatch_room_exit::exit_status::Failure;
+use dispatch_room_exit::failure_causes::Explainer;
 use dispatch_room_sockets::connection_halves::sides;
 use dispatch_room_sockets::doors::PAUSE;
 use dispatch_room_sockets::lingering_close::{Parting, Peer};

@@ -4,7 +4,7 @@
 ghost use Rattle.std.specs.Prelude.{◌≡◌, ◌+◌, ◌&&◌, min, nat_lt, not, if◌then◌else◌};
 ghost use Rattle.std.specs.Duration.{as_nanos, max_nanos};
 
-use dispatch_room_cli::failure_causes::Explainer;
+use dispatch_room_exit::failure_causes::Explainer;
 use std::alloc::Global;
 use std::fs;
 use std::os::unix::fs::MetadataExt;

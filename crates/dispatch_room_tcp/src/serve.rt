@@ -13,7 +13,7 @@ ghost use Rattle.dispatch_room_serving.specs.declared.list_places.Finding.TheVar
 ghost use Rattle.dispatch_room_tcp.specs.ServedFiles.{IsAddressOf, IsDoorOf, IsServe, IsServed};
 ghost use Rattle.dispatch_room_tcp.specs.ServedFiles.{IsServedAt, IsServedBy, PrintsServing};
 ghost use Rattle.dispatch_room_tcp.specs.ServedFiles.{begins_at, ended, is_endless, is_synced_by};
-ghost use Rattle.dispatch_room_tcp.specs.ServedFiles.{keeps_questions_by, manner_of, terms_of};
+ghost use Rattle.dispatch_room_tcp.specs.ServedFiles.{keeps_questions_by, manner_of, limits_of};
 ghost use Rattle.dispatch_room_tcp.specs.ServedFiles.{watch_of};
 ghost use Rattle.dispatch_room_tcp.specs.ServedParts.{EndsAs, GoesOn, IsJournalOf, IsPart};
 ghost use Rattle.dispatch_room_tcp.specs.ServedParts.{OpensFor, OpensNoPart, ServesParts};
@@ -23,17 +23,17 @@ use crate::hosts::{Host, Machine};
 use crate::listeners::{Listener, TcpAddress};
 use crate::tcp_callers::TcpCallers;
 use crate::tcp_doors::{SystemDoor, TcpDoor};
-use dispatch_room_cli::exit_status::{Done, Failure};
-use dispatch_room_cli::failure_causes::Explainer;
 use dispatch_room_cli::tasks::Service;
 use dispatch_room_disk::room_files::RoomFile;
+use dispatch_room_exit::exit_status::{Done, Failure};
+use dispatch_room_exit::failure_causes::Explainer;
 use dispatch_room_serving::callers::Callers;
 use dispatch_room_serving::journal_files::{JournalFile, Lasting, OpenedList, SystemFile};
 use dispatch_room_serving::journals::{Journal, Keeper};
 use dispatch_room_serving::list_places::{Finding, ListPlace, Placed, standing};
 use dispatch_room_serving::log_observers::LogAndJournal;
 use dispatch_room_serving::logs::Log;
-use dispatch_room_serving::served_room::{ServedPart, Terms, serve_in};
+use dispatch_room_serving::served_room::{ServedPart, ServiceLimits, serve_in};
 use dispatch_room_sockets::timeouts::Waits;
 use dispatch_room_tasks::opened_room::TaskResult;
 use room_http::clocks::{Clock, MachineClock};
@@ -269,7 +269,7 @@ fn serve_parts<M: Machine, S: Alter + Drop, P: Callers, C: Clock>(
 {
     let has_journal = list.is_some();
     let (first, left) = serve_part(conn, run, list, callers, clock)?;
-    if !terms_of(&run.service).renews {
+    if !limits_of(&run.service).renews {
         return Ok((first, left));
     }
     let mut done = first;
@@ -319,7 +319,7 @@ fn serve_part<S: Alter + Drop, F: Lasting + Placed + Drop, P: Callers, C: Clock>
     requires outside { conn.in_transaction ≡ false }
     ensures outside { IfOk result (λ worked. worked.1.in_transaction ≡ false) }
     ensures served { IfOk result (λ worked. IsPart S.Store
-        (watch_of F.Write.contents (is_some list) run.now.service) (terms_of run.now.service) list
+        (watch_of F.Write.contents (is_some list) run.now.service) (limits_of run.now.service) list
         (record {
           conn = conn;
           heard = P.heard callers.old;
@@ -341,10 +341,10 @@ fn serve_part<S: Alter + Drop, F: Lasting + Placed + Drop, P: Callers, C: Clock>
     let host = run.host;
     let service = &run.service;
     let mut err = host.rt.stderr();
-    let terms = terms_of(service);
+    let limits = limits_of(service);
     let mut part = ServedPart {
-        terms,
-        place: place_of(run, &list, terms.renews),
+        limits,
+        place: place_of(run, &list, limits.renews),
     };
     let has_journal = list.is_some();
     let mut log_and_journal = observer_of(host, service, list, &mut err);
@@ -422,11 +422,11 @@ fn leave<E: Write>(alloc: Global, place: Option<ListPlace<'_>>, left: Finding, e
     };
 }
 
-// The terms on which a service serves its room.
-fn terms_of(service: &Service<'_>) -> Terms
-    ensures { result ≡ terms_of service.now }
+// The limits within which a service serves its room.
+fn limits_of(service: &Service<'_>) -> ServiceLimits
+    ensures { result ≡ limits_of service.now }
 {
-    Terms {
+    ServiceLimits {
         connections: service.connections,
         history: service.history,
         renews: is_endless(service) && service.journal.is_some(),

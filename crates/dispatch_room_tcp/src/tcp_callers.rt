@@ -2,13 +2,13 @@
 ghost use Rattle.std.specs.Io.KnownBytes.{Appends};
 ghost use Rattle.std.specs.Prelude.{◌≡◌, ◌⊎◌, ◌∷◌, [], IfErr, IfSome, IsOk, MatchBool, OnErr, OnOk};
 ghost use Rattle.std.specs.Prelude.{codes, false, option_map, true};
-ghost use Rattle.dispatch_room_cli.specs.declared.exit_status.Failure.TheVariants.{Network};
+ghost use Rattle.dispatch_room_exit.specs.declared.exit_status.Failure.TheVariants.{Network};
 ghost use Rattle.room_http_messages.specs.Streams.{Grows};
 ghost use Rattle.dispatch_room_serving.specs.Callers.{Prints, printing};
 ghost use Rattle.dispatch_room_tcp.specs.Listeners.{PartsFrom};
 
 use crate::listeners::Listener;
-use dispatch_room_cli::exit_status::Failure;
+use dispatch_room_exit::exit_status::Failure;
 use dispatch_room_serving::callers::Callers;
 use dispatch_room_sockets::lingering_close::part;
 use std::io::Write;

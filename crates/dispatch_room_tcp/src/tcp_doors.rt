@@ -2,13 +2,13 @@
 //! between two pieces it waits among the others.
 ghost use Rattle.std.specs.Prelude.{◌≡◌, ◌||◌, if◌then◌else◌, IfErr, IfOk, IfSome, None, OnErr};
 ghost use Rattle.std.specs.Prelude.{OnOk, false, is_some, not, option_map, true};
-ghost use Rattle.dispatch_room_cli.specs.declared.exit_status.Failure.TheVariants.{Network};
+ghost use Rattle.dispatch_room_exit.specs.declared.exit_status.Failure.TheVariants.{Network};
 ghost use Rattle.dispatch_room_sockets.specs.PieceTurns.{GivesPiece, HearsPiece, TakesBack};
 
 use crate::hosts::Host;
 use crate::listeners::{Listener, bound};
 use crate::opened_names::OpenedNames;
-use dispatch_room_cli::exit_status::Failure;
+use dispatch_room_exit::exit_status::Failure;
 use dispatch_room_sockets::doors::{Client, Door};
 use dispatch_room_sockets::entrances::Entrance;
 use dispatch_room_sockets::lingering_close::Parting;

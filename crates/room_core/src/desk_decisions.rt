@@ -21,6 +21,7 @@ use room_incident::incident_needs::change_needs;
 use room_place::plans::Plan;
 use room_queue::queues::queue;
 use room_queue::report_clearing::clear;
+use room_queue::vehicle_reports::reports;
 use room_types::asks::Ask;
 use room_types::decisions::Decision;
 use room_types::numbers::Moment;
@@ -86,6 +87,7 @@ fn decide(
         Ask::Accept(callsign) => accept(slice, callsign, at),
         Ask::Recall(callsign) => recall(slice, callsign),
         Ask::GiveBack(callsign) => give_back(slice, callsign),
+        Ask::Reports(callsign) => reports(alloc, slice, callsign),
         Ask::Queue => queue(alloc, slice, at),
         Ask::Clear(callsign, number) => clear(slice, callsign, *number),
         Ask::Points => points(alloc, slice, at),

@@ -23,7 +23,7 @@ use Rattle.room_http_requests.specs.declared.request_table.Request.{Request}
 use Rattle.room_http_requests.specs.declared.request_table.Request.TheVariants as request
 use Rattle.room_http_requests.specs.declared.request_table.Role.TheVariants as role
 use Rattle.room_http_requests.proofs.RoleLaws.{asked_is, addressed}
-use Rattle.room_http.specs.declared.settings.Setting.{Setting}
+use Rattle.room_http.specs.declared.settings.HttpSettings.{HttpSettings}
 use Rattle.room_http.specs.MessageEvents.{AsksAs, AsksAt, AsksBy, AsksFor, IsAskFor, named}
 
 -- what is posted is no day
@@ -44,7 +44,7 @@ times_are_desks target.Report body day is =
     absurd (no_times (option_and_then (ask_with_body target.Report) (fields_of body)) day is)
 times_are_desks t body day is = refl
 
-pub request_addressed : (setting : Setting) (t : Target) (body : List ℕ) (given : Request) (asks : Ask)
+pub request_addressed : (setting : HttpSettings) (t : Target) (body : List ℕ) (given : Request) (asks : Ask)
     (who : Who) (room : Room) → request_by t body ≡ Some given
     → IsAskFor setting given asks → is_of (role_of t) who ≡ true → is_known who room ≡ true
     → is_for who asks room ≡ true
@@ -57,7 +57,7 @@ request_addressed setting t body (request.Times day) asks who room body_asks is 
     ∙ known
 
 -- what a message asks for, found step by step
-pub asks_for : (setting : Setting) (terminals : List Terminal) (m : WholeMessage) (at : ℕ)
+pub asks_for : (setting : HttpSettings) (terminals : List Terminal) (m : WholeMessage) (at : ℕ)
     (method bytes body : List ℕ) (field : Option (List ℕ))
     (t : Target) (who : Who) (given : Request) (asks : Ask)
     → method ≡ m.head.method → bytes ≡ m.head.target → body ≡ m.body → field ≡ terminal_of m.head

@@ -5,11 +5,11 @@ use Rattle.std.specs.Io.KnownBytes.{Appends}
 use Rattle.room_types.specs.declared.fleet.Terminal.{Terminal}
 use Rattle.room_model.specs.Room.{Room}
 use Rattle.room_http_messages.proofs.StreamLemmas.{Appends-more, Appends-none}
-use Rattle.room_http.specs.declared.settings.Setting.{Setting}
+use Rattle.room_http.specs.declared.settings.HttpSettings.{HttpSettings}
 use Rattle.room_model.specs.Rooms.{Step}
 use Rattle.room_http.specs.Dialogues.{Timed, IsReplyTo, IsDialogue, WritesDialogue}
 
-module _ (step : Step) (setting : Setting) (terminals : List Terminal) where
+module _ (step : Step) (setting : HttpSettings) (terminals : List Terminal) where
   pub IsDialogue-append : (room mid after : Room) (xs ys : List Timed) (bytes more : List ℕ)
       → IsDialogue step setting terminals room xs mid bytes → IsDialogue step setting terminals mid ys after more
       → IsDialogue step setting terminals room (xs ++ ys) after (bytes ++ more)
@@ -36,7 +36,7 @@ joined a b c first none second tail is one two =
     let whole : Appends a b first = rw (is, append-nil) at one in
     rw append_assoc (Appends-more a b c first (second ++ tail) whole two)
 
-module _ (step : Step) (setting : Setting) where
+module _ (step : Step) (setting : HttpSettings) where
   pub WritesDialogue-none : (trusted : Type 0) (stood stands : List Terminal → Room → Type 0)
       (held : Option (List ℕ)) → ((terminals : List Terminal) (room : Room) → stood terminals room
       → stands terminals room)

@@ -22,7 +22,7 @@ use Rattle.room_http_requests.specs.declared.request_table.Target.{Target}
 use Rattle.room_http.proofs.DatedMoments.{always_there_law}
 use Rattle.room_http_time.specs.Days.{zone_of}
 use Rattle.room_types.specs.declared.numbers.TheConstants.{LAST_MOMENT}
-use Rattle.room_http.specs.declared.settings.Setting.{Setting}
+use Rattle.room_http.specs.declared.settings.HttpSettings.{HttpSettings}
 use Rattle.room_http_time.proofs.ZoneLaws.{one_zone_law}
 use Rattle.room_http.specs.Arrivals.{is_closing, is_head_only, message, refused}
 use Rattle.room_http.specs.MessageEvents.{AsksAs, AsksAt, AsksBy, IsAskFor, named}
@@ -30,7 +30,7 @@ use Rattle.room_http.specs.Runs.{AreAnswered, Exchange}
 use Rattle.room_http.specs.Settings.{IsSetting}
 use Rattle.room_http.specs.Dialogues.{Finds, Timed, replied}
 
-module _ (text : List ℕ) (a b : Setting) (in_a : IsSetting text b.history a)
+module _ (text : List ℕ) (a b : HttpSettings) (in_a : IsSetting text b.history a)
     (in_b : IsPosixZone text (zone_of b.zone)) where
   ask_in : (given : Request) (asks : Ask) → IsAskFor a given asks → IsAskFor b given asks
   ask_in (request.Ask q) asks is = is
@@ -79,7 +79,7 @@ module _ (text : List ℕ) (a b : Setting) (in_a : IsSetting text b.history a)
   )
 
 -- an event that was found, with the bytes that the room answers it with
-pub exchange_of : (setting : Setting) (terminals : List Terminal) (x : Timed) (event : Event) (room : Room)
+pub exchange_of : (setting : HttpSettings) (terminals : List Terminal) (x : Timed) (event : Event) (room : Room)
     → x.1 ≤ LAST_MOMENT → Finds setting terminals x (Ok event)
     → (done : Exchange) × (done.arrival ≡ x) × (done.found ≡ Ok event)
     × AreAnswered setting terminals (done ∷ []) room

@@ -13,15 +13,15 @@ use Rattle.room_model.specs.Room.{Room}
 use Rattle.room_http.specs.ReplyMessages.{fixed_bytes}
 use Rattle.room_http_messages.proofs.StreamLemmas.{Appends-more, Appends-none}
 use Rattle.room_types.specs.declared.numbers.TheConstants.{LAST_MOMENT}
-use Rattle.room_http.specs.declared.settings.Setting.{Setting}
+use Rattle.room_http.specs.declared.settings.HttpSettings.{HttpSettings}
 use Rattle.room_http.specs.ClockMoments.{HasNoMoment}
 use Rattle.room_model.specs.Rooms.{IsUnavailable, Step}
 use Rattle.room_http.specs.declared.arrivals.Arrived.{Arrived}
 use Rattle.room_http.specs.declared.arrivals.Arrived.TheVariants.{Message, Refused}
 use Rattle.room_http.specs.declared.session.ServeEnd.{ServeEnd}
 use Rattle.room_http.specs.declared.session.ServeEnd.TheVariants.{Closed, Cut, ReadFault}
-use Rattle.room_http.specs.declared.session.ServeEnd.TheVariants.{WriteFault, ClockFault, Unkept}
-use Rattle.room_http.specs.declared.session.ServeEnd.TheVariants.{ReadsSpent, Memory}
+use Rattle.room_http.specs.declared.session.ServeEnd.TheVariants.{WriteFault, ClockFault}
+use Rattle.room_http.specs.declared.session.ServeEnd.TheVariants.{JournalFailed, ReadsSpent, Memory}
 use Rattle.room_http.specs.Arrivals.{Arrival, message, refused, is_closing, is_head_only, Begins}
 use Rattle.room_http.specs.Arrivals.{HasNext, IsShown}
 use Rattle.room_http.specs.KeptMessages.{Acts, ActsOnEach, AreKept, AreReplies, DoesNothing, Grow}
@@ -47,7 +47,7 @@ nothing_done given gives kept held was_none (inr late) = (
 )
 
 -- one arrival more
-AreReplies-push : (step : Step) (setting : Setting) (terminals : List Terminal) (room mid after : Room)
+AreReplies-push : (step : Step) (setting : HttpSettings) (terminals : List Terminal) (room mid after : Room)
     (outs : List Timed) (answers : List (List ℕ)) (x : Timed) (answer : List ℕ)
     → AreReplies step setting terminals room outs answers mid
     → IsReplyTo step setting terminals mid x after answer
@@ -93,7 +93,7 @@ module _ (came : ℕ → List ℕ → List ℕ) (response : List ℕ → List �
     -- it could not be kept as it came
     pub kept_none : (kept keeps held : Option (List ℕ)) → lasts → unmoved
         → ((front : List ℕ) × IsFront front coming × Appends kept keeps front)
-        → Here kept keeps held held (Err Unkept)
+        → Here kept keeps held held (Err JournalFailed)
     kept_none kept keeps held same still cut = (
       cut.0,
       [],
@@ -126,7 +126,7 @@ module _ (came : ℕ → List ℕ → List ℕ) (response : List ℕ → List �
       pub kept_part : (kept comes keeps held : Option (List ℕ)) → Appends kept comes coming
           → ((front : List ℕ) × IsFront front (response_of response arrived answer)
           × Appends comes keeps front)
-          → Here kept keeps held held (Err Unkept)
+          → Here kept keeps held held (Err JournalFailed)
       kept_part kept comes keeps held first cut = (
         coming ++ cut.0,
         [],
@@ -207,7 +207,7 @@ module _ (came : ℕ → List ℕ → List ℕ) (response : List ℕ → List �
 
   -- the arrivals were answered, all of them stay open, and these bytes are left; and the record of
   -- each was kept
-  pub record Noted (step : Step) (setting : Setting) (left : Option (List ℕ)) (old : Tapes)
+  pub record Noted (step : Step) (setting : HttpSettings) (left : Option (List ℕ)) (old : Tapes)
       (remains : Option (List ℕ)) (new : Tapes) (trusted : Type 0)
       (stood stands : List Terminal → Room → Type 0) (outs : List Timed)
       (answers : List (List ℕ)) : Type 0 where
@@ -219,7 +219,7 @@ module _ (came : ℕ → List ℕ → List ℕ) (response : List ℕ → List �
     pub grew : Grow old new (map (λ x. x.1) outs) text (concat answers)
     pub moved : ActsOnEach step setting trusted stood stands outs answers
 
-  module _ (step : Step) (setting : Setting) (left : Option (List ℕ)) (old : Tapes) where
+  module _ (step : Step) (setting : HttpSettings) (left : Option (List ℕ)) (old : Tapes) where
     pub Noted-none : (trusted : Type 0) (stood : List Terminal → Room → Type 0)
         → Noted step setting left old left old trusted stood stood [] []
     Noted-none trusted stood = record {
@@ -413,6 +413,6 @@ module _ (came : ℕ → List ℕ → List ℕ) (response : List ℕ → List �
       Noted-breaks Cut one = begun Cut one.0 one.1 one.2 one.3
       Noted-breaks ReadFault one = begun ReadFault one.0 one.1 one.2 one.3
       Noted-breaks WriteFault one = begun WriteFault one.0 one.1 one.2 one.3
-      Noted-breaks Unkept one = begun Unkept one.0 one.1 one.2 one.3
+      Noted-breaks JournalFailed one = begun JournalFailed one.0 one.1 one.2 one.3
       Noted-breaks ReadsSpent one = begun ReadsSpent one.0 one.1 one.2 one.3
       Noted-breaks Memory one = begun Memory one.0 one.1 one.2 one.3

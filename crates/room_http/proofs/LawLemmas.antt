@@ -22,7 +22,7 @@ use Rattle.room_http_requests.specs.declared.request_table.Request.TheVariants a
 use Rattle.room_http.specs.ReplyMessages.{IsReply}
 use Rattle.room_http.proofs.Dates.{one_reply_law}
 use Rattle.room_http_time.specs.Days.{zone_of}
-use Rattle.room_http.specs.declared.settings.Setting.{Setting}
+use Rattle.room_http.specs.declared.settings.HttpSettings.{HttpSettings}
 use Rattle.room_http_time.proofs.SpanLaws.{one_span_law}
 use Rattle.room_http.specs.MessageEvents.{AsksAs, AsksAt, AsksBy, IsAskFor, named}
 use Rattle.room_http.specs.Laws.{AreFirstOf, IsOneDialogue, IsOneStream}
@@ -51,7 +51,7 @@ one_stream_law stream (refused r head_only ∷ few) (message n ∷ many) rest le
 one_stream_law stream (refused r head_only ∷ few) (refused s without ∷ many) rest left x y fewer =
     (tt, none_more few many (x.2 refl))
 
-one_ask : (setting : Setting) (given : Request) (a b : Ask) → IsAskFor setting given a
+one_ask : (setting : HttpSettings) (given : Request) (a b : Ask) → IsAskFor setting given a
     → IsAskFor setting given b → a ≡ b
 one_ask setting (request.Ask x) a b is also = is ∙ sym also
 one_ask setting (request.Times day) a b is also =
@@ -60,40 +60,40 @@ one_ask setting (request.Times day) a b is also =
     (one_span_law (zone_of setting.zone) (days_from_civil (pos day.year) day.month day.day) is.0 also.0 is.1 also.1)
     ∙ sym also.2
 
-one_by : (setting : Setting) (at : ℕ) (who : Who) (given : Option Request) (f g : Result Event Refusal)
+one_by : (setting : HttpSettings) (at : ℕ) (who : Who) (given : Option Request) (f g : Result Event Refusal)
     → AsksBy setting at who given f → AsksBy setting at who given g → f ≡ g
 one_by setting at who None f g is also = is ∙ sym also
 one_by setting at who (Some w) f g is also =
     is.2 ∙ ap (λ (a : Ask). Ok (record { who = who; ask = a; at = at })) (one_ask setting w is.0 also.0 is.1 also.1)
     ∙ sym also.2
 
-one_role : (may : Bool) (setting : Setting) (at : ℕ) (who : Who) (given : Option Request)
+one_role : (may : Bool) (setting : HttpSettings) (at : ℕ) (who : Who) (given : Option Request)
     (f g : Result Event Refusal)
     → MatchBool may (AsksBy setting at who given f) (f ≡ Err WrongRole)
     → MatchBool may (AsksBy setting at who given g) (g ≡ Err WrongRole) → f ≡ g
 one_role true setting at who given f g is also = one_by setting at who given f g is also
 one_role false setting at who given f g is also = is ∙ sym also
 
-one_as : (setting : Setting) (t : Target) (body : List ℕ) (at : ℕ) (who : Option Who)
+one_as : (setting : HttpSettings) (t : Target) (body : List ℕ) (at : ℕ) (who : Option Who)
     (f g : Result Event Refusal) → AsksAs setting t body at who f → AsksAs setting t body at who g → f ≡ g
 one_as setting t body at None f g is also = is ∙ sym also
 one_as setting t body at (Some who) f g is also =
     one_role (is_of (role_of t) who) setting at who (request_by t body) f g is also
 
-one_at : (setting : Setting) (terminals : List Terminal) (m : WholeMessage) (at : ℕ)
+one_at : (setting : HttpSettings) (terminals : List Terminal) (m : WholeMessage) (at : ℕ)
     (r : Result Target Refusal) (f g : Result Event Refusal)
     → AsksAt setting terminals m at r f → AsksAt setting terminals m at r g → f ≡ g
 one_at setting terminals m at (Ok t) f g is also =
     one_as setting t m.body at (named terminals (terminal_of m.head)) f g is also
 one_at setting terminals m at (Err r) f g is also = is ∙ sym also
 
-one_find : (setting : Setting) (terminals : List Terminal) (x : Timed) (f g : Result Event Refusal)
+one_find : (setting : HttpSettings) (terminals : List Terminal) (x : Timed) (f g : Result Event Refusal)
     → Finds setting terminals x f → Finds setting terminals x g → f ≡ g
 one_find setting terminals (message m, at) f g is also =
     one_at setting terminals m at (routed setting.history m.head.method m.head.target) f g is also
 one_find setting terminals (refused r head_only, at) f g is also = is ∙ sym also
 
-one_reply_to : (step : Step) (setting : Setting) (terminals : List Terminal) (room : Room) (x : Timed)
+one_reply_to : (step : Step) (setting : HttpSettings) (terminals : List Terminal) (room : Room) (x : Timed)
     (after other : Room) (bytes others : List ℕ)
     → IsReplyTo step setting terminals room x after bytes
     → IsReplyTo step setting terminals room x other others → (after ≡ other) × (bytes ≡ others)
@@ -116,7 +116,7 @@ one_dialogue_law step setting terminals room (x ∷ more) after other bytes othe
     (rest.0, is.3 ∙ ap (λ t. t ++ is.2) first.1 ∙ ap (λ t. also.1 ++ t) rest.1 ∙ sym also.3)
 
 -- what is answered to equal arrivals, one after another, is the same, each answer by itself
-pub one_course_law : (setting : Setting) (terminals : List Terminal) (room after : Room)
+pub one_course_law : (setting : HttpSettings) (terminals : List Terminal) (room after : Room)
     (outs : List Timed) (answers : List (List ℕ)) (xs : List Exchange)
     → AreReplies machine setting terminals room outs answers after
     → AreAnswered setting terminals xs room → arrivals_of xs ≡ outs → answers_of xs ≡ answers

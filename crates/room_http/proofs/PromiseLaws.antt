@@ -42,7 +42,7 @@ use Rattle.room_laws.proofs.Stays.{due_still}
 use Rattle.room_laws.specs.Exceptions.{Concern, IsDue, IsEnded, LooksEvery, looks}
 use Rattle.room_http.proofs.Dates.{one_reply_law}
 use Rattle.room_http.specs.ReplyMessages.{IsReply}
-use Rattle.room_http.specs.declared.settings.Setting.{Setting}
+use Rattle.room_http.specs.declared.settings.HttpSettings.{HttpSettings}
 use Rattle.room_model.specs.Rooms.{machine}
 use Rattle.room_http.specs.Arrivals.{is_closing, is_head_only}
 use Rattle.room_http.specs.Promises.{ActsOnce, AreSentOnce, IsDeskAlike, IsSeenAt, IsShownAt}
@@ -111,7 +111,7 @@ addressed_later before rest room all =
     addressed_on (events_of before) (events_of rest) room (addressed_late room before rest all)
 
 -- what an arrival is answered, after those before it
-answer_at : (setting : Setting) (terminals : List Terminal) (before rest : List Exchange) (x : Exchange)
+answer_at : (setting : HttpSettings) (terminals : List Terminal) (before rest : List Exchange) (x : Exchange)
     (room : Room) → AreAnswered setting terminals (before ++ x ∷ rest) room
     → HasAnswer x (replied machine x.found (room_by before room)).1
 answer_at setting terminals [] rest x room are = are.1
@@ -120,7 +120,7 @@ answer_at setting terminals (y ∷ before) rest x room are =
     (answer_at setting terminals before rest x (replied machine y.found room).0 are.2)
 
 -- who asks of one of them
-asked_in : (setting : Setting) (terminals : List Terminal) (xs : List Exchange) (room : Room)
+asked_in : (setting : HttpSettings) (terminals : List Terminal) (xs : List Exchange) (room : Room)
     → AreAnswered setting terminals xs room
     → (x : Exchange) (event : Event) → Among x xs → x.found ≡ Ok event
     → (asker terminals x.arrival.0 ≡ Some event.who) × (event.at ≡ x.arrival.1)
@@ -139,7 +139,7 @@ answers_apart : (d : ℕ) (b : Bool) (x : Exchange) (xs : List Exchange)
 answers_apart d true x xs answer answers first rest = (first, rest)
 answers_apart d false x xs answer answers first rest = rest
 
-desk_answered : (setting : Setting) (terminals : List Terminal) (d : ℕ) (xs : List Exchange)
+desk_answered : (setting : HttpSettings) (terminals : List Terminal) (d : ℕ) (xs : List Exchange)
     (room : Room) → AreAnswered setting terminals xs room
     → HaveAnswers (with_desk d xs) (desk_answers d (events_of xs) room)
 desk_answered setting terminals d [] room are = tt
@@ -238,7 +238,7 @@ sent_once_in room formed = record {
       λ a t here there unended same. let is = of_one_order room formed a t here there unended same in (is.0, is.1);
 }
 
-module _ (setting : Setting) (terminals : List Terminal) (xs : List Exchange) (room : Room)
+module _ (setting : HttpSettings) (terminals : List Terminal) (xs : List Exchange) (room : Room)
     (formed : IsWellFormed room) (run : IsRun setting terminals xs room) where
   -- every room on the way is well-formed
   formed_at : (before rest : List Exchange) → xs ≡ before ++ rest
@@ -282,7 +282,7 @@ module _ (setting : Setting) (terminals : List Terminal) (xs : List Exchange) (r
       (λ (found : Result Event Refusal). room_run (events_of between) (replied machine found (room_by before room)).0)
       is
 
-  alike : (d : ℕ) (zone_there : Setting) (terminals_there : List Terminal) (ys : List Exchange)
+  alike : (d : ℕ) (zone_there : HttpSettings) (terminals_there : List Terminal) (ys : List Exchange)
       (other : Room) → IsWellFormed other → IsRun zone_there terminals_there ys other
       → own d room ≡ own d other → received (crossings d (events_of xs) room)
       ≡ received (crossings d (events_of ys) other) → IsDeskAlike d xs ys room other

@@ -22,7 +22,7 @@ use Rattle.room_http_requests.specs.declared.request_table.Request.{Request}
 use Rattle.room_http_requests.specs.declared.request_table.Request.TheVariants as request
 use Rattle.room_http_requests.specs.declared.request_table.Target.{Target}
 use Rattle.room_http_requests.proofs.RoleLaws.{asked_is}
-use Rattle.room_http.specs.declared.settings.Setting.{Setting}
+use Rattle.room_http.specs.declared.settings.HttpSettings.{HttpSettings}
 use Rattle.room_model.specs.Rooms.{machine, who_at}
 use Rattle.room_http.specs.Arrivals.{message, refused}
 use Rattle.room_http.specs.MessageEvents.{AsksAs, AsksAt, AsksBy, AsksFor, IsAskFor, named}
@@ -34,7 +34,7 @@ use Rattle.room_http.proofs.AskLemmas.{request_addressed}
 use Rattle.room_http.proofs.TerminalLemmas.{found_known}
 
 -- ---- what a message asks for: what holds of refusals, and of events that are found step by step
-module _ (setting : Setting) (terminals : List Terminal) (m : WholeMessage) (at : ℕ)
+module _ (setting : HttpSettings) (terminals : List Terminal) (m : WholeMessage) (at : ℕ)
     (Holds : Result Event Refusal → Type 0) (refusals : (r : Refusal) → Holds (Err r))
     (events : (t : Target) (who : Who) (given : Request) (asks : Ask) → named terminals (terminal_of m.head) ≡ Some who
     → is_of (role_of t) who ≡ true
@@ -72,7 +72,7 @@ abbrev IsAskedBy : List Terminal → Timed → Result Event Refusal → Type 0
 IsAskedBy terminals o (Ok event) = (asker terminals o.0 ≡ Some event.who) × (event.at ≡ o.1)
 IsAskedBy terminals o (Err r) = Unit {0}
 
-pub found_asked_by : (setting : Setting) (terminals : List Terminal) (o : Timed)
+pub found_asked_by : (setting : HttpSettings) (terminals : List Terminal) (o : Timed)
     (found : Result Event Refusal) → Finds setting terminals o found → IsAskedBy terminals o found
 found_asked_by setting terminals (message m, at) found finds =
     by_steps setting terminals m at (IsAskedBy terminals (message m, at)) (λ r. tt)
@@ -81,7 +81,7 @@ found_asked_by setting terminals (refused r head_only, at) found finds = rw find
 
 -- ---- what is asked is addressed
 -- what is asked has a number from 1
-request_numbered : (setting : Setting) (t : Target) (body : List ℕ) (given : Request) (asks : Ask)
+request_numbered : (setting : HttpSettings) (t : Target) (body : List ℕ) (given : Request) (asks : Ask)
     → request_by t body ≡ Some given → IsAskFor setting given asks → IsNumbered asks
 request_numbered setting t body (request.Ask a) asks body_asks is = rw is (asked_is t body a body_asks).1
 request_numbered setting t body (request.Times day) asks body_asks is = rw is.2 tt
@@ -91,7 +91,7 @@ abbrev IsKnownEvent : Room → Result Event Refusal → Type 0
 IsKnownEvent room (Ok event) = IsAddressed event room × IsNumbered event.ask
 IsKnownEvent room (Err r) = Unit {0}
 
-module _ (setting : Setting) (terminals : List Terminal) (room : Room)
+module _ (setting : HttpSettings) (terminals : List Terminal) (room : Room)
     (fit : AreTerminals room terminals) where
   named_known : (token : Option Token) (who : Who)
       → option_and_then (who_at terminals) token ≡ Some who → is_known who room ≡ true
@@ -140,7 +140,7 @@ pub room_push : (before : List Exchange) (x : Exchange) (room : Room)
     → room_by (before ++ x ∷ []) room ≡ (replied machine x.found (room_by before room)).0
 room_push before x room = room_split before (x ∷ []) room ∙ run_first x.found [] (room_by before room)
 
-module _ (setting : Setting) (terminals : List Terminal) where
+module _ (setting : HttpSettings) (terminals : List Terminal) where
   pub answered_join : (before rest : List Exchange) (room : Room)
       → AreAnswered setting terminals before room
       → AreAnswered setting terminals rest (room_by before room)
@@ -165,7 +165,7 @@ module _ (setting : Setting) (terminals : List Terminal) where
       run_of room (xs ++ ys) fit (answered_join xs ys room first.answered second.answered)
 
 -- ---- a dialogue
-module _ (setting : Setting) (terminals : List Terminal) where
+module _ (setting : HttpSettings) (terminals : List Terminal) where
   -- the exchanges of a dialogue
   record Exchanged (outs : List Timed) (after : Room) (bytes : List ℕ) (xs : List Exchange)
       (room : Room) : Type 0 where

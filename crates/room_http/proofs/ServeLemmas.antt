@@ -22,13 +22,13 @@ use Rattle.room_http_messages.proofs.StreamLemmas.{Appends-more, Appends-none}
 use Rattle.room_types.specs.declared.numbers.TheConstants.{LAST_MOMENT}
 use Rattle.room_http.specs.declared.session.ServeEnd.{ServeEnd}
 use Rattle.room_http.specs.declared.session.ServeEnd.TheVariants.{Closed, Cut, ReadFault}
-use Rattle.room_http.specs.declared.session.ServeEnd.TheVariants.{WriteFault, ClockFault, Unkept}
-use Rattle.room_http.specs.declared.session.ServeEnd.TheVariants.{ReadsSpent, Memory}
+use Rattle.room_http.specs.declared.session.ServeEnd.TheVariants.{WriteFault, ClockFault}
+use Rattle.room_http.specs.declared.session.ServeEnd.TheVariants.{JournalFailed, ReadsSpent, Memory}
 use Rattle.room_http.specs.ReplyMessages.{fixed_bytes}
 use Rattle.room_http.specs.ArrivalAnswers.{Answers, EndsAnswering}
 use Rattle.room_http.specs.ClockMoments.{HasNoMoment}
 use Rattle.room_http.specs.Arrivals.{Arrival, is_closing, is_head_only, Begins, HasNext}
-use Rattle.room_http.specs.declared.settings.Setting.{Setting}
+use Rattle.room_http.specs.declared.settings.HttpSettings.{HttpSettings}
 use Rattle.room_model.specs.Rooms.{Step}
 use Rattle.room_http.specs.Course.{Course}
 use Rattle.room_http.specs.ConnectionReads.{EndsAs}
@@ -41,7 +41,7 @@ use Rattle.room_http.proofs.DialogueLemmas.{WritesDialogue-append, WritesDialogu
 use Rattle.room_http.proofs.DialogueLemmas.{WritesDialogue-none}
 
 -- the arrivals were answered, all of them stay open, and these bytes are left
-pub record Going (step : Step) (setting : Setting) (old : Sides) (left held given : Option (List ℕ))
+pub record Going (step : Step) (setting : HttpSettings) (old : Sides) (left held given : Option (List ℕ))
     (trusted : Type 0) (stood stands : List Terminal → Room → Type 0)
     (outs : List Timed) : Type 0 where
   pub begins : (stream : List ℕ) → old.left ≡ Some stream
@@ -59,7 +59,7 @@ last_of Closed x = Some x
 last_of Cut x = Some x
 last_of ReadFault x = Some x
 last_of WriteFault x = Some x
-last_of Unkept x = Some x
+last_of JournalFailed x = Some x
 last_of ReadsSpent x = Some x
 last_of Memory x = Some x
 
@@ -88,13 +88,13 @@ pub ends_missing_none : (left remains given gives : Option (List ℕ)) (e : Serv
 ends_missing_none left remains given gives Closed ends = tt
 ends_missing_none left remains given gives WriteFault ends = tt
 ends_missing_none left remains given gives ClockFault ends = tt
-ends_missing_none left remains given gives Unkept ends = tt
+ends_missing_none left remains given gives JournalFailed ends = tt
 ends_missing_none left remains given gives Cut ends = tt
 ends_missing_none left remains given gives Memory ends = tt
 ends_missing_none left remains given gives ReadFault ends = absurd ends
 ends_missing_none left remains given gives ReadsSpent ends = absurd ends
 
-module _ (step : Step) (setting : Setting) (old : Sides) where
+module _ (step : Step) (setting : HttpSettings) (old : Sides) where
   pub Going-none : (trusted : Type 0) (stood stands : List Terminal → Room → Type 0)
       → ((terminals : List Terminal) (room : Room) → stood terminals room → stands terminals room)
       → Going step setting old old.left old.held old.given trusted stood stands []
@@ -418,7 +418,7 @@ module _ (step : Step) (setting : Setting) (old : Sides) where
       ),
       answers.1,
     )
-    ends stated budget at Unkept answers = (
+    ends stated budget at JournalFailed answers = (
       (
         (o, at),
         refl,

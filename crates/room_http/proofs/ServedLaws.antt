@@ -9,13 +9,13 @@ use Rattle.room_types.specs.declared.refusal_statuses.Refusal.{Refusal}
 use Rattle.room_model.specs.FleetRows.{AreTerminals}
 use Rattle.room_model.specs.Room.{Room}
 use Rattle.room_model.specs.RoomAgreements.{IsWellFormed}
-use Rattle.room_http.specs.declared.settings.Setting.{Setting}
+use Rattle.room_http.specs.declared.settings.HttpSettings.{HttpSettings}
 use Rattle.room_http.specs.ClockMoments.{HasNoMoment}
 use Rattle.room_model.specs.Rooms.{IsUnavailable, Step, machine}
 use Rattle.room_http.specs.declared.session.ServeEnd.{ServeEnd}
 use Rattle.room_http.specs.declared.session.ServeEnd.TheVariants.{Closed, Cut, ReadFault}
-use Rattle.room_http.specs.declared.session.ServeEnd.TheVariants.{WriteFault, ClockFault, Unkept}
-use Rattle.room_http.specs.declared.session.ServeEnd.TheVariants.{ReadsSpent, Memory}
+use Rattle.room_http.specs.declared.session.ServeEnd.TheVariants.{WriteFault, ClockFault}
+use Rattle.room_http.specs.declared.session.ServeEnd.TheVariants.{JournalFailed, ReadsSpent, Memory}
 use Rattle.room_http_messages.specs.Messages.{IsCut}
 use Rattle.room_http.specs.ReplyMessages.{fixed_bytes}
 use Rattle.room_http.specs.ArrivalAnswers.{Answers}
@@ -32,7 +32,7 @@ use Rattle.room_http.proofs.PromiseLaws.{promises_kept}
 use Rattle.room_http.proofs.RunLemmas.{answered_join, dialogue_run, room_push, run_of}
 use Rattle.room_http.proofs.DialogueLemmas.{WritesDialogue-as, WritesDialogue-none}
 
-module _ (setting : Setting) (are : List Timed → Type 0) (was_kept : Type 0)
+module _ (setting : HttpSettings) (are : List Timed → Type 0) (was_kept : Type 0)
     (stands : List Terminal → Room → Type 0) (leaves : List Terminal → List Room → Type 0) where
   -- the room after these arrivals, and what a stop leaves of it
   abbrev IsLeft : List Timed → List Terminal → Room → Type 0
@@ -52,7 +52,7 @@ module _ (setting : Setting) (are : List Timed → Type 0) (was_kept : Type 0)
   unserved_next outs x first terminals room unserved =
       (unserved.0, λ was. elim (unserved.1 was) [ inl one ↦ inl one | inr next ↦ inr (x, first, next) ])
 
-module _ (setting : Setting) (are : List Timed → Type 0) (held holds : Option (List ℕ))
+module _ (setting : HttpSettings) (are : List Timed → Type 0) (held holds : Option (List ℕ))
     (was_kept : Type 0) (stands : List Terminal → Room → Type 0)
     (leaves : List Terminal → List Room → Type 0) where
   abbrev LeftHere : List Timed → List Terminal → Room → Type 0
@@ -135,7 +135,7 @@ module _ (setting : Setting) (are : List Timed → Type 0) (held holds : Option 
         short terminals room (fit terminals room standing) formed outs x t.0 t.1 t.2 arrivals t.3 t.4 t.5
 
 -- nothing was answered
-pub none_served : (setting : Setting) (are : List Timed → Type 0) (held : Option (List ℕ))
+pub none_served : (setting : HttpSettings) (are : List Timed → Type 0) (held : Option (List ℕ))
     (was_kept trusted : Type 0) (stood : List Terminal → Room → Type 0)
     (leaves : List Terminal → List Room → Type 0)
     → ((terminals : List Terminal) (room : Room) → stood terminals room
@@ -164,7 +164,7 @@ some_of : (failed : Type 0) (r : Refusal) (head_only : Bool) → IsCaused failed
 some_of failed r head_only cause tail is = inr (r, unavailable_of failed r cause, head_only, is)
 
 -- the room has acted and nothing was written, so the answer was not written wholly
-silent : (setting : Setting) (trusted : Type 0) (stood stays : List Terminal → Room → Type 0)
+silent : (setting : HttpSettings) (trusted : Type 0) (stood stays : List Terminal → Room → Type 0)
     (held holds : Option (List ℕ)) (outs : List Timed) (x : Timed)
     → WritesDialogue machine setting trusted stood held holds outs
     (λ terminals after tail. BreaksOff machine setting terminals stays after x [] × (tail ≡ []))
@@ -177,7 +177,7 @@ silent setting trusted stood stays held holds outs x dialogue =
     (λ trust terminals room tail it. subst (BreaksOff machine setting terminals stays room x) (sym it.1) it.0) dialogue
 
 -- ---- one arrival
-module _ (setting : Setting) (held holds given gives : Option (List ℕ))
+module _ (setting : HttpSettings) (held holds given gives : Option (List ℕ))
     (write_failed was_none observer_failed : Bool) (was_kept trusted failed : Type 0)
     (stood stands : List Terminal → Room → Type 0)
     (leaves : List Terminal → List Room → Type 0)
@@ -224,7 +224,7 @@ module _ (setting : Setting) (held holds given gives : Option (List ℕ))
   kept_one (Err ClockFault) a =
       none_answered (Stays was_kept stands leaves) (λ tail. tail ≡ [])
       (only_room setting (IsAtMost o given gives) was_kept stands leaves []) (λ tail is. inl is) a.1
-  kept_one (Err Unkept) a = elim a.2 [
+  kept_one (Err JournalFailed) a = elim a.2 [
     | inl dialogue ↦
         none_answered (Stays was_kept stands leaves) (λ tail. tail ≡ [])
         (only_room setting (IsAtMost o given gives) was_kept stands leaves []) (λ tail is. inl is) dialogue
@@ -265,7 +265,7 @@ no_moment : (given gives : Option (List ℕ)) (was_none : Bool) (outs : List Tim
 no_moment given gives was_none outs (inl none) = no_more given gives outs none.1
 no_moment given gives was_none outs (inr late) = (late.0 ∷ [], late.2)
 
-module _ (setting : Setting) (old : Sides) (new : Finish) (was_kept trusted has_failed : Type 0)
+module _ (setting : HttpSettings) (old : Sides) (new : Finish) (was_kept trusted has_failed : Type 0)
     (stood stands : List Terminal → Room → Type 0) (leaves : List Terminal → List Room → Type 0)
     (fit : (terminals : List Terminal) (room : Room) → stood terminals room → AreTerminals room terminals)
     (course : Course) where
@@ -364,7 +364,7 @@ module _ (setting : Setting) (old : Sides) (new : Finish) (was_kept trusted has_
     | inl b ↦ kept_broken failed.0.0 failed.0.1 b
     | inr u ↦ kept_unserved failed.0.0 IsFront failed.0.1 some_of u
   ]
-  kept budget Unkept cut = elim cut.0.2 [
+  kept budget JournalFailed cut = elim cut.0.2 [
     | inl u ↦ kept_unwritten cut.0.0 u
     | inr u ↦ kept_acted cut.0.0 cut.0.1 u
   ]

@@ -4,8 +4,8 @@ use Rattle.serde_json.specs.Data.{Data, boolean, number, string}
 use Rattle.serde_json.specs.Find.{of_integer}
 use Rattle.serde_json.specs.Written.{compact_text}
 use Rattle.room_place.specs.declared.places.Place.{Place}
-use Rattle.room_types.specs.Codes.{kind_number, merged_into, outcome_name, state_number}
-use Rattle.room_types.specs.Codes.{status_number}
+use Rattle.room_types.specs.Codes.{button_name, kind_number, merged_into, outcome_name}
+use Rattle.room_types.specs.Codes.{state_number, status_number}
 use Rattle.room_types.specs.RefusalStatuses.{refusal_name, refusal_number}
 use Rattle.room_types.specs.declared.answers.Answer.{Answer}
 use Rattle.room_types.specs.declared.answers.Answer.TheVariants as answer
@@ -24,6 +24,7 @@ use Rattle.room_types.specs.declared.tables.Assignment.{Assignment}
 use Rattle.room_types.specs.declared.tables.Call.{Call}
 use Rattle.room_types.specs.declared.tables.Loan.{Loan}
 use Rattle.room_types.specs.declared.tables.Offer.{Offer}
+use Rattle.room_types.specs.declared.tables.Report.{Report}
 use Rattle.room_types.specs.declared.tables.Turn.{Turn}
 use Rattle.room_http.specs.JsonShapes.{whole, or_null, list_of, object_of}
 
@@ -145,10 +146,12 @@ assignment_json a =
     ∷ (codes "place", place_json a.place)
     ∷ [])
 
+-- a call, with the incident that it was given: another than it belongs to, where that was merged
 abbrev pub call_json : Call → Data
 call_json c =
     object_of (
     (codes "class", whole c.class)
+    ∷ (codes "given", whole c.given)
     ∷ (codes "linked", boolean c.linked)
     ∷ (codes "moment", whole c.at)
     ∷ (codes "needs", counts_json c.needs)
@@ -158,12 +161,14 @@ call_json c =
     ∷ (codes "serial", whole c.serial)
     ∷ [])
 
+-- a turn, with the incident that the vehicle was sent to
 abbrev pub turn_json : Turn → Data
 turn_json t =
     object_of (
     (codes "acknowledged", or_null whole t.acknowledged)
     ∷ (codes "ended", or_null whole t.ended)
     ∷ (codes "hospital", or_null whole t.hospital)
+    ∷ (codes "incident", whole t.incident)
     ∷ (codes "kind", whole (kind_number t.kind))
     ∷ (codes "left", or_null whole t.left)
     ∷ (codes "order", whole t.order)
@@ -190,6 +195,20 @@ history_json h =
     ∷ (codes "turns", list_of turn_json h.turns)
     ∷ [])
 
+-- a report, with what became of it, and the status after it
+abbrev pub report_json : Report → Data
+report_json x =
+    object_of (
+    (codes "button", string (button_name x.button))
+    ∷ (codes "cleared", boolean x.cleared)
+    ∷ (codes "moment", whole x.at)
+    ∷ (codes "number", whole x.number)
+    ∷ (codes "order", whole x.order)
+    ∷ (codes "outcome", string (outcome_name x.outcome))
+    ∷ (codes "place", place_json x.place)
+    ∷ (codes "status", whole (status_number x.status))
+    ∷ [])
+
 abbrev pub answer_json : Answer → Data
 answer_json (answer.Called division incident linked) =
     object_of ((codes "division", whole division) ∷ (codes "incident", whole incident)
@@ -204,6 +223,8 @@ answer_json (answer.Mobilised order callsign) =
 answer_json answer.Done = object_of ((codes "done", boolean true) ∷ [])
 answer_json (answer.Vehicles lines) =
     object_of ((codes "vehicles", list_of vehicle_json lines) ∷ [])
+answer_json (answer.Reports reports) =
+    object_of ((codes "reports", list_of report_json reports) ∷ [])
 answer_json (answer.Queue entries) = object_of ((codes "queue", list_of entry_json entries) ∷ [])
 answer_json (answer.Points lines) = object_of ((codes "points", list_of point_json lines) ∷ [])
 answer_json (answer.Loans loans) = object_of ((codes "loans", list_of loan_json loans) ∷ [])

@@ -8,13 +8,13 @@ use Rattle.room_model.specs.Room.{Room}
 use Rattle.room_types.specs.declared.numbers.TheConstants.{LAST_MOMENT}
 use Rattle.room_http.specs.declared.session.ServeEnd.{ServeEnd}
 use Rattle.room_http.specs.declared.session.ServeEnd.TheVariants.{Closed, Cut, ReadFault}
-use Rattle.room_http.specs.declared.session.ServeEnd.TheVariants.{WriteFault, ClockFault, Unkept}
-use Rattle.room_http.specs.declared.session.ServeEnd.TheVariants.{ReadsSpent, Memory}
+use Rattle.room_http.specs.declared.session.ServeEnd.TheVariants.{WriteFault, ClockFault}
+use Rattle.room_http.specs.declared.session.ServeEnd.TheVariants.{JournalFailed, ReadsSpent, Memory}
 use Rattle.room_model.specs.Rooms.{Step}
 use Rattle.room_http.specs.Arrivals.{Arrival, is_head_only}
 use Rattle.room_http.specs.ClockMoments.{HasNoMoment}
 use Rattle.room_http.specs.ReplyMessages.{fixed_bytes}
-use Rattle.room_http.specs.declared.settings.Setting.{Setting}
+use Rattle.room_http.specs.declared.settings.HttpSettings.{HttpSettings}
 use Rattle.room_http.specs.Dialogues.{Timed, WritesDialogue, IsCaused, IsFront, BreaksOff}
 
 -- serving ends with an answer in one of these ways
@@ -22,13 +22,13 @@ abbrev pub EndsAnswering : ServeEnd → Type 0
 EndsAnswering Closed = ⊤
 EndsAnswering WriteFault = ⊤
 EndsAnswering ClockFault = ⊤
-EndsAnswering Unkept = ⊤
+EndsAnswering JournalFailed = ⊤
 EndsAnswering Cut = ⊥
 EndsAnswering ReadFault = ⊥
 EndsAnswering ReadsSpent = ⊥
 EndsAnswering Memory = ⊥
 
-module _ (step : Step) (setting : Setting) (held holds given gives : Option (List ℕ))
+module _ (step : Step) (setting : HttpSettings) (held holds given gives : Option (List ℕ))
     (write_failed was_none observer_failed : Bool)
     (trusted : Type 0) (stood stands : List Terminal → Room → Type 0)
     (unserved : Timed → List Terminal → Room → Type 0) (failed : Type 0)
@@ -55,7 +55,7 @@ module _ (step : Step) (setting : Setting) (held holds given gives : Option (Lis
   Answers (Err ClockFault) = HasNoMoment given gives was_none []
       × WritesDialogue step setting trusted stood held holds []
       (λ terminals after tail. stands terminals after × (tail ≡ []))
-  Answers (Err Unkept) = IsAt × (observer_failed ≡ true)
+  Answers (Err JournalFailed) = IsAt × (observer_failed ≡ true)
       × (WritesDialogue step setting trusted stood held holds []
       (λ terminals after tail. stands terminals after × (tail ≡ []))
       ⊎ WritesDialogue step setting trusted stood held holds []

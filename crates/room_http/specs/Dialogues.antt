@@ -10,7 +10,7 @@ use Rattle.room_model.specs.Room.{Room}
 use Rattle.room_http.specs.ReplyMessages.{IsReply}
 use Rattle.room_http.specs.MessageEvents.{AsksFor}
 use Rattle.room_http.specs.Arrivals.{Arrival, message, refused, is_head_only, is_closing}
-use Rattle.room_http.specs.declared.settings.Setting.{Setting}
+use Rattle.room_http.specs.declared.settings.HttpSettings.{HttpSettings}
 use Rattle.room_model.specs.Rooms.{Step}
 
 -- an arrival, with the moment at which it is answered
@@ -18,7 +18,7 @@ abbrev pub Timed : Type 0
 Timed = Arrival × ℕ
 
 -- what an arrival asks for: an event, or the first refusal on the way to it
-abbrev pub Finds : Setting → List Terminal → Timed → Result Event Refusal → Type 0
+abbrev pub Finds : HttpSettings → List Terminal → Timed → Result Event Refusal → Type 0
 Finds setting terminals (message m, at) found = AsksFor setting terminals m at found
 Finds setting terminals (refused r head_only, at) found = found ≡ Err r
 
@@ -27,7 +27,7 @@ abbrev pub replied : Step → Result Event Refusal → Room → Room × Result A
 replied step (Ok event) room = step event room
 replied step (Err r) room = (room, Err r)
 
-module _ (step : Step) (setting : Setting) (terminals : List Terminal) where
+module _ (step : Step) (setting : HttpSettings) (terminals : List Terminal) where
   -- the room after an arrival, and the bytes of the answer
   abbrev pub IsReplyTo : Room → Timed → Room → List ℕ → Type 0
   IsReplyTo room x after bytes =
@@ -54,7 +54,7 @@ Stays was_kept stands leaves terminals room =
     stands terminals room × (was_kept → leaves terminals (room ∷ []))
 
 -- A stop leaves this room or that after the event that an arrival asked for.
-abbrev pub LeavesNext : Step → Setting → (List Terminal → List Room → Type 0) → Timed
+abbrev pub LeavesNext : Step → HttpSettings → (List Terminal → List Room → Type 0) → Timed
     → List Terminal → Room → Type 0
 LeavesNext step setting leaves x terminals room =
     (event : Event) × Finds setting terminals x (Ok event)
@@ -62,7 +62,7 @@ LeavesNext step setting leaves x terminals room =
 
 -- For this arrival memory or storage failed, and the room is as before. A stop may leave the
 -- one after it.
-abbrev pub IsUnserved : Step → Setting → Type 0 → (List Terminal → Room → Type 0)
+abbrev pub IsUnserved : Step → HttpSettings → Type 0 → (List Terminal → Room → Type 0)
     → (List Terminal → List Room → Type 0) → Timed → List Terminal → Room → Type 0
 IsUnserved step setting was_kept stands leaves x terminals room = stands terminals room
     × (was_kept → leaves terminals (room ∷ []) ⊎ LeavesNext step setting leaves x terminals room)
@@ -72,7 +72,7 @@ abbrev pub IsFront : List ℕ → List ℕ → Type 0
 IsFront front bytes = (rest : List ℕ) × (bytes ≡ front ++ rest)
 
 -- the room has acted on the arrival, and its answer was not written, or not wholly
-abbrev pub BreaksOff : Step → Setting → List Terminal → (List Terminal → Room → Type 0) → Room
+abbrev pub BreaksOff : Step → HttpSettings → List Terminal → (List Terminal → Room → Type 0) → Room
     → Timed → List ℕ → Type 0
 BreaksOff step setting terminals stands room x tail =
     (after : Room) × (bytes : List ℕ) × IsReplyTo step setting terminals room x after bytes
@@ -81,7 +81,7 @@ BreaksOff step setting terminals stands room x tail =
 -- Where the room is kept by what gives back what was written: what was written to the other side is
 -- the answers to the arrivals, and then a tail, of which something is said, and of the room after
 -- them.
-abbrev pub WritesDialogue : Step → Setting → Type 0 → (List Terminal → Room → Type 0)
+abbrev pub WritesDialogue : Step → HttpSettings → Type 0 → (List Terminal → Room → Type 0)
     → Option (List ℕ)
     → Option (List ℕ) → List Timed → (List Terminal → Room → List ℕ → Type 0) → Type 0
 WritesDialogue step setting trusted stood held holds outs says =

@@ -13,7 +13,7 @@ use Rattle.room_http_messages.specs.declared.messages.Message.{Message}
 use Rattle.room_http_messages.specs.Layouts.{Shows}
 use Rattle.room_http_messages.specs.Messages.{WholeMessage}
 use Rattle.room_http.specs.MessageEvents.{AsksFor, named}
-use Rattle.room_http.specs.declared.settings.Setting.{Setting}
+use Rattle.room_http.specs.declared.settings.HttpSettings.{HttpSettings}
 use Rattle.room_model.specs.Rooms.{IsUnavailable}
 
 -- The room was asked who shows the token of a field, and stayed as it was. Storage fails only
@@ -33,7 +33,7 @@ pub record FindsTerminal {M : Type 0} (is_trusted has_failed : M → Type 0)
 -- The room was asked who shows a token, and stayed as it was. What was found holds of each message
 -- that is shown, whatever room is kept. Storage fails only where that call was refused.
 pub record FindsMessage {M : Type 0} (is_trusted has_failed : M → Type 0)
-    (stands : M → List Terminal → Room → Type 0) (old new : M) (setting : Setting) (shown : Message)
+    (stands : M → List Terminal → Room → Type 0) (old new : M) (setting : HttpSettings) (shown : Message)
     (at : ℕ) (result : Result Event Refusal) : Type 0 where
   pub trusted : is_trusted new → is_trusted old
   pub same : is_trusted new → (terminals : List Terminal) (room : Room) → stands old terminals room

@@ -8,12 +8,12 @@ use Rattle.room_types.specs.declared.refusal_statuses.Refusal.{Refusal}
 use Rattle.room_model.specs.Room.{Room}
 use Rattle.room_http.specs.ReplyMessages.{fixed_bytes}
 use Rattle.room_types.specs.declared.numbers.TheConstants.{LAST_MOMENT}
-use Rattle.room_http.specs.declared.settings.Setting.{Setting}
+use Rattle.room_http.specs.declared.settings.HttpSettings.{HttpSettings}
 use Rattle.room_model.specs.Rooms.{IsUnavailable, Step}
 use Rattle.room_http.specs.declared.arrivals.Arrived.{Arrived}
 use Rattle.room_http.specs.declared.arrivals.Arrived.TheVariants.{Message, Refused}
 use Rattle.room_http.specs.declared.session.ServeEnd.{ServeEnd}
-use Rattle.room_http.specs.declared.session.ServeEnd.TheVariants.{ClockFault, Unkept}
+use Rattle.room_http.specs.declared.session.ServeEnd.TheVariants.{ClockFault, JournalFailed}
 use Rattle.room_http.specs.Arrivals.{Arrival, Begins, HasNext, IsJustMessage, is_head_only, message}
 use Rattle.room_http.specs.Arrivals.{refused}
 use Rattle.room_http.specs.Course.{Course}
@@ -70,7 +70,7 @@ abbrev pub Unmoved : Type 0 → (List Terminal → Room → Type 0) → (List Te
 Unmoved trusted stood stands = trusted → (terminals : List Terminal) (room : Room)
     → stood terminals room → stands terminals room
 
-module _ (step : Step) (setting : Setting) where
+module _ (step : Step) (setting : HttpSettings) where
   -- these are the answers to the arrivals, one to each, and the room afterwards
   abbrev pub AreReplies : List Terminal → Room → List Timed → List (List ℕ) → Room → Type 0
   AreReplies terminals room [] [] after = after ≡ room
@@ -149,9 +149,9 @@ module _ (came : ℕ → List ℕ → List ℕ) (response : List ℕ → List �
   abbrev pub IsBegun : ServeEnd → Type 0 → Type 0 → (List ℕ → Type 0) → Timed → List ℕ → List ℕ
       → Type 0
   IsBegun end lasts unmoved moved x tail wrote =
-      (unmoved × ((lasts × IsCutShort x tail wrote × (end ≡ Unkept)) ⊎ KeepsUnserved x tail wrote))
+      (unmoved × ((lasts × IsCutShort x tail wrote × (end ≡ JournalFailed)) ⊎ KeepsUnserved x tail wrote))
       ⊎ ((answer : List ℕ) × moved answer × lasts
-      × ((IsUnwritten x answer tail wrote × (end ≡ Unkept)) ⊎ IsUnfinished x answer tail wrote))
+      × ((IsUnwritten x answer tail wrote × (end ≡ JournalFailed)) ⊎ IsUnfinished x answer tail wrote))
 
   -- what was kept and written of one arrival at its moment, where the room has not acted on it, or
   -- has acted and this is its answer

@@ -2,7 +2,7 @@
 use Rattle.std.specs.Prelude.{◌≡◌, ◌≤◌, ⊤, ℕ, List, [], ◌∷◌, length}
 use Rattle.room_types.specs.declared.fleet.Terminal.{Terminal}
 use Rattle.room_model.specs.Room.{Room}
-use Rattle.room_http.specs.declared.settings.Setting.{Setting}
+use Rattle.room_http.specs.declared.settings.HttpSettings.{HttpSettings}
 use Rattle.room_model.specs.Rooms.{Step}
 use Rattle.room_http.specs.Arrivals.{Arrival, message, refused, Begins}
 use Rattle.room_http.specs.Dialogues.{Timed, IsDialogue}
@@ -31,7 +31,7 @@ IsOneStream =
 -- equal arrivals at equal moments, in equal rooms, leave equal rooms and get equal bytes
 abbrev pub IsOneDialogue : Type 0
 IsOneDialogue =
-    (step : Step) (setting : Setting) (terminals : List Terminal) (room : Room) (outs : List Timed)
+    (step : Step) (setting : HttpSettings) (terminals : List Terminal) (room : Room) (outs : List Timed)
     (after other : Room) (bytes others : List ℕ)
     → IsDialogue step setting terminals room outs after bytes
     → IsDialogue step setting terminals room outs other others

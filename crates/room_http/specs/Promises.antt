@@ -32,7 +32,7 @@ use Rattle.room_laws.specs.Exceptions.{Concern, IsDue, IsEnded, IsShown, LooksEv
 use Rattle.room_laws.specs.Happens.{Happens}
 use Rattle.room_laws.specs.Orders.{AreKept, EndsOrder, ReachTheirCrews}
 use Rattle.room_http.specs.QueueTexts.{IsAnsweredWith, ShowsOrder, ShowsUrgentFirst}
-use Rattle.room_http.specs.declared.settings.Setting.{Setting}
+use Rattle.room_http.specs.declared.settings.HttpSettings.{HttpSettings}
 use Rattle.room_http.specs.Runs.{Exchange, HasAnswer, HaveAnswers, IsRun, answers_of, arrivals_of}
 use Rattle.room_http.specs.Runs.{asker, events_of, room_by, with_desk}
 
@@ -123,7 +123,7 @@ pub record Promises (terminals : List Terminal) (xs : List Exchange) (room : Roo
   pub desk_apart : (d : ℕ) → HaveAnswers (with_desk d xs)
       (share_answers d (crossings d (events_of xs) room) (own d room))
   -- in whatever other room, a desk of an equal share that is handed the same is answered alike
-  pub desk_alike : (d : ℕ) (setting : Setting) (others : List Terminal) (ys : List Exchange)
+  pub desk_alike : (d : ℕ) (setting : HttpSettings) (others : List Terminal) (ys : List Exchange)
       (other : Room)
       → IsWellFormed other → IsRun setting others ys other → own d room ≡ own d other
       → received (crossings d (events_of xs) room) ≡ received (crossings d (events_of ys) other)

@@ -12,7 +12,7 @@ use Rattle.room_model.specs.Room.{Room}
 use Rattle.room_model.specs.Run.{is_desk, room_run}
 use Rattle.room_http_messages.specs.Messages.{terminal_of}
 use Rattle.room_http.specs.ReplyMessages.{IsReply}
-use Rattle.room_http.specs.declared.settings.Setting.{Setting}
+use Rattle.room_http.specs.declared.settings.HttpSettings.{HttpSettings}
 use Rattle.room_model.specs.Rooms.{machine}
 use Rattle.room_http.specs.Arrivals.{Arrival, is_closing, is_head_only, message, refused}
 use Rattle.room_http.specs.MessageEvents.{named}
@@ -75,7 +75,7 @@ HaveAnswers [] (answer ∷ answers) = ⊥
 HaveAnswers (x ∷ xs) [] = ⊥
 HaveAnswers (x ∷ xs) (answer ∷ answers) = HasAnswer x answer × HaveAnswers xs answers
 
-module _ (setting : Setting) (terminals : List Terminal) where
+module _ (setting : HttpSettings) (terminals : List Terminal) where
   -- each is of what the arrival asks for, and is answered as the room answers at its turn
   abbrev pub AreAnswered : List Exchange → Room → Type 0
   AreAnswered [] room = ⊤

@@ -6,7 +6,7 @@ use Rattle.room_types.specs.declared.refusal_statuses.Refusal.{Refusal}
 use Rattle.room_model.specs.Room.{Room}
 use Rattle.room_model.specs.RoomAgreements.{IsWellFormed}
 use Rattle.room_http.specs.ReplyMessages.{fixed_bytes}
-use Rattle.room_http.specs.declared.settings.Setting.{Setting}
+use Rattle.room_http.specs.declared.settings.HttpSettings.{HttpSettings}
 use Rattle.room_model.specs.Rooms.{IsUnavailable, machine}
 use Rattle.room_http.specs.Arrivals.{Arrival, Begins}
 use Rattle.room_http.specs.Promises.{Promises}
@@ -30,7 +30,7 @@ AreWritten xs written =
 -- keeps the promises. Where what was held before it was kept, a stop after it leaves the room after
 -- all that was answered, and so after each answer that was written; or that after the event of the
 -- next arrival, for which memory or storage failed.
-pub record Served (setting : Setting) (are : List Timed → Type 0) (held holds : Option (List ℕ))
+pub record Served (setting : HttpSettings) (are : List Timed → Type 0) (held holds : Option (List ℕ))
     (was_kept : Type 0) (stands : List Terminal → Room → Type 0)
     (leaves : List Terminal → List Room → Type 0) (terminals : List Terminal)
     (room : Room) : Type 0 where
@@ -63,7 +63,7 @@ IsAtMost o given gives (x ∷ y ∷ more) = ⊥
 
 -- Where the room is well-formed and is kept by what gives back what was written, what was served
 -- keeps the promises.
-abbrev pub KeepsPromises : Setting → (List Timed → Type 0) → Option (List ℕ) → Option (List ℕ)
+abbrev pub KeepsPromises : HttpSettings → (List Timed → Type 0) → Option (List ℕ) → Option (List ℕ)
     → Type 0 → Type 0 → (List Terminal → Room → Type 0) → (List Terminal → Room → Type 0)
     → (List Terminal → List Room → Type 0) → Type 0
 KeepsPromises setting are held holds trusted was_kept stood stands leaves =

@@ -10,12 +10,12 @@ use Rattle.room_http_messages.specs.Messages.{IsCut, IsPart}
 use Rattle.room_http_messages.specs.Streams.{CountsBy}
 use Rattle.room_http.specs.declared.session.ServeEnd.{ServeEnd}
 use Rattle.room_http.specs.declared.session.ServeEnd.TheVariants.{Closed, Cut, ReadFault}
-use Rattle.room_http.specs.declared.session.ServeEnd.TheVariants.{WriteFault, ClockFault, Unkept}
-use Rattle.room_http.specs.declared.session.ServeEnd.TheVariants.{ReadsSpent, Memory}
+use Rattle.room_http.specs.declared.session.ServeEnd.TheVariants.{WriteFault, ClockFault}
+use Rattle.room_http.specs.declared.session.ServeEnd.TheVariants.{JournalFailed, ReadsSpent, Memory}
 use Rattle.room_types.specs.declared.numbers.TheConstants.{LAST_MOMENT}
 use Rattle.room_model.specs.Rooms.{Step}
 use Rattle.room_http.specs.Arrivals.{Arrival, is_head_only, is_closing, Begins, HasNext}
-use Rattle.room_http.specs.declared.settings.Setting.{Setting}
+use Rattle.room_http.specs.declared.settings.HttpSettings.{HttpSettings}
 use Rattle.room_http.specs.ClockMoments.{HasNoMoment}
 use Rattle.room_http.specs.Course.{Course}
 use Rattle.room_http.specs.Dialogues.{Timed, IsCaused, IsFront, BreaksOff, WritesDialogue}
@@ -49,7 +49,7 @@ abbrev pub EndsClosing : List Timed → Type 0
 EndsClosing outs =
     (before : List Timed) × (x : Timed) × (outs ≡ before ++ x ∷ []) × (is_closing x.0 ≡ true)
 
-module _ (step : Step) (setting : Setting) (old : Sides) (new : Finish) (trusted : Type 0)
+module _ (step : Step) (setting : HttpSettings) (old : Sides) (new : Finish) (trusted : Type 0)
     (stood stands : List Terminal → Room → Type 0) where
   -- the stream begins with the arrivals, and something is said of what follows them
   abbrev pub Reaches : List Timed → (List ℕ → Type 0) → Type 0
@@ -135,7 +135,7 @@ module _ (step : Step) (setting : Setting) (old : Sides) (new : Finish) (trusted
       ServeIs budget WriteFault =
           EndsWith (λ x. Broken course.outs x ⊎ Unserved course.outs x IsFront)
           × (new.write_failed ≡ true)
-      ServeIs budget Unkept = EndsWith (λ x. Unwritten course.outs x stands
+      ServeIs budget JournalFailed = EndsWith (λ x. Unwritten course.outs x stands
           ⊎ Unwritten course.outs x (HasActed x)) × (new.observer_failed ≡ true)
       ServeIs budget ClockFault =
           (course.last ≡ None) × ((o : Arrival) × Untimed course.outs o)

@@ -4,8 +4,8 @@ ghost use Rattle.room_http.specs.Objects.{Sends};
 ghost use Rattle.room_http.specs.AnswerJson.{answer_json, assignment_json, call_json};
 ghost use Rattle.room_http.specs.AnswerJson.{callsign_or_empty, content, entry_json, history_json};
 ghost use Rattle.room_http.specs.AnswerJson.{incident_json, json_of, loan_json, offer_json};
-ghost use Rattle.room_http.specs.AnswerJson.{point_json, proposal_json, refusal_json, times_json};
-ghost use Rattle.room_http.specs.AnswerJson.{times_line_json, turn_json, vehicle_json};
+ghost use Rattle.room_http.specs.AnswerJson.{point_json, proposal_json, refusal_json, report_json};
+ghost use Rattle.room_http.specs.AnswerJson.{times_json, times_line_json, turn_json, vehicle_json};
 
 use crate::json_values::ToJson;
 use crate::objects::{End, Member, write_object};
@@ -14,7 +14,7 @@ use room_types::answers::{
 };
 use room_types::callsign::Callsign;
 use room_types::refusal_statuses::Refusal;
-use room_types::tables::{Assignment, Call, Loan, Offer, Turn};
+use room_types::tables::{Assignment, Call, Loan, Offer, Report, Turn};
 use serde::{Described, Serialize, Serializer};
 use std::alloc::{AllocError, Global};
 
@@ -49,6 +49,7 @@ impl ToJson for Answer {
                 object!(out, { "order": order, "vehicle": callsign }),
             Answer::Done => object!(out, { "done": &true }),
             Answer::Vehicles(lines) => object!(out, { "vehicles": lines }),
+            Answer::Reports(reports) => object!(out, { "reports": reports }),
             Answer::Queue(entries) => object!(out, { "queue": entries }),
             Answer::Points(lines) => object!(out, { "points": lines }),
             Answer::Loans(loans) => object!(out, { "loans": loans }),
@@ -244,6 +245,7 @@ impl ToJson for Call {
     fn write_json<S: Serializer>(&self, out: &mut S) -> Result<(), S::Error> {
         object!(out, {
             "class": &self.class,
+            "given": &self.given,
             "linked": &self.linked,
             "moment": &self.at,
             "needs": &self.needs,
@@ -263,6 +265,7 @@ impl ToJson for Turn {
             "acknowledged": &self.acknowledged,
             "ended": &self.ended,
             "hospital": &self.hospital,
+            "incident": &self.incident,
             "kind": &self.kind,
             "left": &self.left,
             "order": &self.order,
@@ -270,6 +273,23 @@ impl ToJson for Turn {
             "scene": &self.scene,
             "stood_down": &self.stood_down,
             "vehicle": &self.callsign,
+        })
+    }
+}
+
+impl ToJson for Report {
+    ghost json = { report_json };
+
+    fn write_json<S: Serializer>(&self, out: &mut S) -> Result<(), S::Error> {
+        object!(out, {
+            "button": &self.button,
+            "cleared": &self.cleared,
+            "moment": &self.at,
+            "number": &self.number,
+            "order": &self.order,
+            "outcome": &self.outcome,
+            "place": &self.place,
+            "status": &self.status,
         })
     }
 }

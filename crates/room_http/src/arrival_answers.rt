@@ -63,7 +63,7 @@ pub fn answer<W: Sink, M: Room, C: Clock, N: Observer>(
           held = W.held writer.new;
         })
         at o result }
-    ensures failed { result ≢ Err endings.Unkept
+    ensures failed { result ≢ Err endings.JournalFailed
         → N.has_failed observer.new ≡ N.has_failed observer.old }
     ensures kept { M.is_trusted room.new → OnOk result (M.is_kept room.old
         → M.is_kept room.new) }
@@ -77,7 +77,7 @@ pub fn answer<W: Sink, M: Room, C: Clock, N: Observer>(
         return Err(ServeEnd::ClockFault);
     };
     if let Err(_) = observer.arrived(arrived, at) {
-        return Err(ServeEnd::Unkept);
+        return Err(ServeEnd::JournalFailed);
     }
     let mut asked = Asked {
         arrived,
@@ -88,7 +88,7 @@ pub fn answer<W: Sink, M: Room, C: Clock, N: Observer>(
         Ok(bytes) => {
             let text = bytes.as_slice();
             if let Err(_) = observer.answering(arrived, text) {
-                return Err(ServeEnd::Unkept);
+                return Err(ServeEnd::JournalFailed);
             }
             match write_answer(writer, observer, &asked, text) {
                 Ok(()) => Ok(()),

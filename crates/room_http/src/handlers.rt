@@ -2,7 +2,7 @@
 ghost use Rattle.std.specs.Prelude.{◌≡◌, IfErr, IfOk};
 ghost use Rattle.room_types.specs.declared.refusal_statuses.Refusal.TheVariants.{Memory};
 
-use crate::settings::Setting;
+use crate::settings::HttpSettings;
 use room_http_requests::router::Routes;
 use room_types::refusal_statuses::Refusal;
 use std::alloc::Global;
@@ -13,12 +13,12 @@ use std::alloc::Global;
 pub struct Handler {
     pub alloc: Global,
     pub routes: Routes,
-    pub setting: Setting,
+    pub setting: HttpSettings,
 }
 
 impl Handler {
     /// A handler of a service with this setting. A refusal is lack of memory.
-    pub fn new(alloc: Global, setting: Setting) -> Result<Handler, Refusal>
+    pub fn new(alloc: Global, setting: HttpSettings) -> Result<Handler, Refusal>
         ensures setting { IfOk result (λ handler. handler.setting ≡ setting) }
         ensures refused { IfErr result (λ refusal. refusal ≡ Memory) }
     {

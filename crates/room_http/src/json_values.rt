@@ -7,13 +7,13 @@ ghost use Rattle.serde_json.specs.Find.{of_integer};
 ghost use Rattle.room_http.specs.JsonShapes.{whole, or_null, list_of};
 ghost use Rattle.room_http.specs.Objects.{Sends};
 ghost use Rattle.room_http.specs.AnswerJson.{counts_json, place_json, served_json};
-ghost use Rattle.room_types.specs.Codes.{kind_number, status_number, outcome_name};
+ghost use Rattle.room_types.specs.Codes.{button_name, kind_number, outcome_name, status_number};
 
 use room_place::bounded_numbers::Bounded;
 use room_place::places::Place;
 use room_types::answers::{Listed, Served};
 use room_types::callsign::Callsign;
-use room_types::codes::{Kind, Outcome, Status};
+use room_types::codes::{Button, Kind, Outcome, Status};
 use room_types::needs::{Counts, Needs};
 use room_types::note::Note;
 use serde::Serializer;
@@ -128,6 +128,14 @@ impl ToJson for Status {
 
     fn write_json<S: Serializer>(&self, out: &mut S) -> Result<(), S::Error> {
         out.u64(u64::from(self.number()))
+    }
+}
+
+impl ToJson for Button {
+    ghost json = { λ button. string (button_name button) };
+
+    fn write_json<S: Serializer>(&self, out: &mut S) -> Result<(), S::Error> {
+        out.str(self.name())
     }
 }
 

@@ -5,7 +5,7 @@ ghost use Rattle.room_types.specs.declared.fleet.Terminal.{Terminal};
 ghost use Rattle.room_model.specs.FleetRows.{AreTerminals};
 ghost use Rattle.room_model.specs.Room.{Room};
 ghost use Rattle.room_model.specs.RoomAgreements.{IsWellFormed};
-ghost use Rattle.room_http.specs.declared.settings.Setting.{Setting};
+ghost use Rattle.room_http.specs.declared.settings.HttpSettings.{HttpSettings};
 ghost use Rattle.room_model.specs.Rooms.{machine};
 ghost use Rattle.room_http.specs.KeptMessages.{AreReplies};
 ghost use Rattle.room_http.specs.Laws.{IsOneDialogue, IsOneStream};
@@ -27,7 +27,7 @@ pub fn one_dialogue()
 /// A dialogue with the dispatch machine is a run. Its messages ask for events that the room knows,
 /// they lead to the room after it, and each gets what the room answers at its turn.
 pub fn a_dialogue_is_a_run()
-    ensures { (setting : Setting) (terminals : List Terminal) (room : Room) (outs : List Timed)
+    ensures { (setting : HttpSettings) (terminals : List Terminal) (room : Room) (outs : List Timed)
         (after : Room) (bytes : List ℕ) →
         AreTerminals room terminals → IsDialogue machine setting terminals room outs after bytes →
         (xs : List Exchange) × IsRunOf setting terminals outs after bytes xs room }
@@ -35,7 +35,7 @@ pub fn a_dialogue_is_a_run()
 
 /// A run goes on where another one ended. Over any connections, one after another, the two are one.
 pub fn a_run_goes_on()
-    ensures run { (setting : Setting) (terminals : List Terminal) (room : Room)
+    ensures run { (setting : HttpSettings) (terminals : List Terminal) (room : Room)
         (xs ys : List Exchange) →
         AreTerminals room terminals →
         IsRun setting terminals xs room → IsRun setting terminals ys (room_by xs room) →
@@ -47,7 +47,7 @@ pub fn a_run_goes_on()
 /// Every run keeps the promises. A division sees of the others what it is handed, no vehicle is
 /// sent to two incidents, and what is sent again acts once.
 pub fn a_run_keeps_the_promises()
-    ensures { (setting : Setting) (terminals : List Terminal) (xs : List Exchange) (room : Room) →
+    ensures { (setting : HttpSettings) (terminals : List Terminal) (xs : List Exchange) (room : Room) →
         IsWellFormed room → IsRun setting terminals xs room →
         Promises terminals xs room }
 {}
@@ -55,7 +55,7 @@ pub fn a_run_keeps_the_promises()
 /// The answers that are kept of a course are those of its run. What is answered to equal arrivals
 /// at equal moments, one after another, is the same, each answer by itself.
 pub fn one_course()
-    ensures { (setting : Setting) (terminals : List Terminal) (room after : Room)
+    ensures { (setting : HttpSettings) (terminals : List Terminal) (room after : Room)
         (outs : List Timed) (answers : List (List ℕ)) (xs : List Exchange) →
         AreReplies machine setting terminals room outs answers after →
         IsRun setting terminals xs room → arrivals_of xs ≡ outs → answers_of xs ≡ answers }

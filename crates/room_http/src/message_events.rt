@@ -8,7 +8,7 @@ ghost use Rattle.room_http.specs.MessageEvents.{IsAskFor, token_of};
 ghost use Rattle.room_http.specs.Findings.{FindsMessage, FindsTerminal, LooksOnly};
 
 use crate::handlers::Handler;
-use crate::settings::Setting;
+use crate::settings::HttpSettings;
 use room_http_messages::messages::Message;
 use room_http_requests::request_table::{Request, Role, ask_of};
 use room_http_time::days::Day;
@@ -57,7 +57,7 @@ fn terminal<M: Room>(alloc: Global, room: &mut M, message: &Message) -> Result<W
 }
 
 /// The times of a day in its zone.
-fn times(setting: &Setting, day: Day) -> Ask
+fn times(setting: &HttpSettings, day: Day) -> Ask
     ensures { IsAskFor setting.now (request.Times day) result }
 {
     let (from, to) = setting
@@ -68,7 +68,7 @@ fn times(setting: &Setting, day: Day) -> Ask
 }
 
 /// A request, as the room is asked.
-fn ask_for(setting: &Setting, request: &Request) -> Ask
+fn ask_for(setting: &HttpSettings, request: &Request) -> Ask
     ensures { IsAskFor setting.now request.now result }
 {
     match request {

@@ -10,7 +10,7 @@ use room_types::numbers::Moment;
 
 /// What is reported could not be kept.
 #[derive(Clone, Copy)]
-pub struct Unkept;
+pub struct JournalFailed;
 
 /// An observer of each arrival and its answer, as a log and a journal are. It is never asked, so it
 /// changes no answer; but where it can't keep what is reported to it, serving ends. What is refused
@@ -32,7 +32,7 @@ pub trait Observer {
     ghost notes: { Self → Self → Asked → List ℕ → Type 0 };
 
     /// Something has arrived. The room acts on it next.
-    fn arrived(&mut self, arrived: &Arrived<'_>, at: Moment) -> Result<(), Unkept>
+    fn arrived(&mut self, arrived: &Arrived<'_>, at: Moment) -> Result<(), JournalFailed>
         requires { IsBounded arrived.now }
         ensures kept { KeepsAll (held self.old) (held self.new) (came_of came arrived.now at)
             result }
@@ -40,7 +40,7 @@ pub trait Observer {
 
     /// This is its answer, which is written next. Where memory was refused or storage failed, this
     /// is not called.
-    fn answering(&mut self, arrived: &Arrived<'_>, answer: &[u8]) -> Result<(), Unkept>
+    fn answering(&mut self, arrived: &Arrived<'_>, answer: &[u8]) -> Result<(), JournalFailed>
         ensures kept { KeepsAll (held self.old) (held self.new)
             (response_of response arrived.now answer.now) result }
         ensures failed { has_failed self.new ≡ (has_failed self.old || is_err result) };
@@ -77,11 +77,11 @@ impl Observer for Nobody {
 
     ghost notes = { λ _ _ _ _. ⊤ };
 
-    fn arrived(&mut self, _arrived: &Arrived<'_>, _at: Moment) -> Result<(), Unkept> {
+    fn arrived(&mut self, _arrived: &Arrived<'_>, _at: Moment) -> Result<(), JournalFailed> {
         Ok(())
     }
 
-    fn answering(&mut self, _arrived: &Arrived<'_>, _answer: &[u8]) -> Result<(), Unkept> {
+    fn answering(&mut self, _arrived: &Arrived<'_>, _answer: &[u8]) -> Result<(), JournalFailed> {
         Ok(())
     }
 

@@ -45,7 +45,7 @@ pub enum ServeEnd {
     /// The clock gave no moment, or a later one than the last of the room.
     ClockFault,
     /// What was to be kept of a message could not be kept.
-    Unkept,
+    JournalFailed,
     /// The reads that were granted are used up.
     ReadsSpent,
     /// Memory was refused before anything was read.
@@ -119,7 +119,7 @@ pub fn serve<R: Source, W: Sink, M: Room, C: Clock, N: Observer>(
         })
         result course) }
     ensures kept { M.is_trusted room.new → M.is_kept room.new ⊎ M.is_shut room.new }
-    ensures failed { result ≢ endings.Unkept
+    ensures failed { result ≢ endings.JournalFailed
         → N.has_failed observer.new ≡ N.has_failed observer.old }
     ensures none_missed { MissesNone (R.left connection.old.reader)
         (R.left connection.new.reader) (C.given clock.old) (C.given clock.new) result }

@@ -63,6 +63,7 @@ vehicle_names =
     (codes "/vehicles/A1/accept", target.Accept (codes "A1")) ∷
     (codes "/vehicles/A1/recall", target.Recall (codes "A1")) ∷
     (codes "/vehicles/A1/giveback", target.GiveBack (codes "A1")) ∷
+    (codes "/vehicles/A1/reports", target.Reports (codes "A1")) ∷
     (codes "/vehicles/0/off", target.Off (codes "0")) ∷
     []
 
@@ -171,6 +172,7 @@ requests =
     ((codes "HEAD", codes "/call"), Err (WrongMethod Post)) ∷
     ((codes "BREW", codes "/points/100"), Err NoPath) ∷
     ((codes "GET", codes "/incidents/1"), Err NoPath) ∷
+    ((codes "GET", codes "/vehicles/A1/reports"), Err NoPath) ∷
     ((codes "POST", codes "/last"), Err NoPath) ∷
     []
 
@@ -178,6 +180,8 @@ requests =
 abbrev pub history_requests : List ((List ℕ × List ℕ) × Result Target Refusal)
 history_requests =
     ((codes "GET", codes "/incidents/1"), Ok (target.Incident 1)) ∷
+    ((codes "GET", codes "/vehicles/A1/reports"), Ok (target.Reports (codes "A1"))) ∷
+    ((codes "POST", codes "/vehicles/A1/reports"), Err (WrongMethod GetHead)) ∷
     ((codes "HEAD", codes "/last"), Ok target.Last) ∷
     ((codes "POST", codes "/last"), Err (WrongMethod GetHead)) ∷
     ((codes "GET", codes "/incidents/0"), Err NoPath) ∷

@@ -37,6 +37,7 @@ pub enum Path {
     Accept,
     Recall,
     GiveBack,
+    Reports,
     Queue,
     Clear,
     Points,
@@ -50,7 +51,7 @@ pub enum Path {
 }
 
 /// All paths.
-pub const PATHS: [Path; 29] = [
+pub const PATHS: [Path; 30] = [
     Path::Call,
     Path::Incidents,
     Path::Incident,
@@ -70,6 +71,7 @@ pub const PATHS: [Path; 29] = [
     Path::Accept,
     Path::Recall,
     Path::GiveBack,
+    Path::Reports,
     Path::Queue,
     Path::Clear,
     Path::Points,
@@ -107,6 +109,7 @@ impl Path {
             Path::Accept => "/vehicles/{c}/accept",
             Path::Recall => "/vehicles/{c}/recall",
             Path::GiveBack => "/vehicles/{c}/giveback",
+            Path::Reports => "/vehicles/{c}/reports",
             Path::Queue => "/queue",
             Path::Clear => "/queue/{c}/{n}/clear",
             Path::Points => "/points",
@@ -129,6 +132,7 @@ impl Path {
             | Path::Incident
             | Path::Propose
             | Path::Vehicles
+            | Path::Reports
             | Path::Queue
             | Path::Points
             | Path::Loans
@@ -161,7 +165,7 @@ impl Path {
     pub fn is_of_history(self) -> bool
         ensures { result ≡ is_of_history self }
     {
-        matches!(self, Path::Incident | Path::Last)
+        matches!(self, Path::Incident | Path::Reports | Path::Last)
     }
 }
 
@@ -187,6 +191,7 @@ pub enum Target {
     Accept(Callsign),
     Recall(Callsign),
     GiveBack(Callsign),
+    Reports(Callsign),
     Queue,
     Clear(Callsign, Number),
     Points,
@@ -226,6 +231,7 @@ impl Target {
             Path::Accept => Some(Target::Accept(Callsign::parse(parameter)?)),
             Path::Recall => Some(Target::Recall(Callsign::parse(parameter)?)),
             Path::GiveBack => Some(Target::GiveBack(Callsign::parse(parameter)?)),
+            Path::Reports => Some(Target::Reports(Callsign::parse(parameter)?)),
             Path::Queue => Some(Target::Queue),
             Path::Clear => {
                 let callsign = Callsign::parse(parameter)?;
@@ -318,6 +324,7 @@ pub fn ask_of(alloc: Global, target: &Target, body: &[u8]) -> Result<Request, Re
         Target::Incident(number) => Ok(Request::Ask(Ask::Incident(number))),
         Target::Propose(number) => Ok(Request::Ask(Ask::Propose(number))),
         Target::Vehicles => Ok(Request::Ask(Ask::Vehicles)),
+        Target::Reports(callsign) => Ok(Request::Ask(Ask::Reports(callsign))),
         Target::Queue => Ok(Request::Ask(Ask::Queue)),
         Target::Points => Ok(Request::Ask(Ask::Points)),
         Target::Loans => Ok(Request::Ask(Ask::Loans)),

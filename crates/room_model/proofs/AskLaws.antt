@@ -39,8 +39,10 @@ use Rattle.room_model.specs.Proposals.{propose, proposed}
 use Rattle.room_model.specs.Queries.{active_incidents, all_held, assignment_of, borrowed, calls_of}
 use Rattle.room_model.specs.Queries.{held, holders, incident_of, incidents_opened, is_attended}
 use Rattle.room_model.specs.Queries.{is_eligible, lent, loans_of, offered_by, offered_to, offers_of}
-use Rattle.room_model.specs.Queries.{open_turn, point_of, points_of, report_of, served, turns_of}
+use Rattle.room_model.specs.Queries.{open_turn, point_of, points_of, report_of, reports_of, served}
+use Rattle.room_model.specs.Queries.{turns_of}
 use Rattle.room_model.specs.Queue.{clear, clear_found, entries, ordered_from, show_queue}
+use Rattle.room_model.specs.Queue.{show_reports}
 use Rattle.room_model.specs.Room.{Room}
 use Rattle.room_model.specs.Step.{desk_asks}
 use Rattle.room_model.specs.Vehicles.{duty, mobilise, mobilise_held, off, posted, show_vehicles}
@@ -309,6 +311,11 @@ module _ (d : ℕ) (s r : Room) where
   unfolding clear
   clear_same c n h = ap clear_found h
 
+  reports_same : (c : Callsign) → reports_of d c s ≡ reports_of d c r
+      → show_reports d c s ≡ show_reports d c r
+  unfolding show_reports
+  reports_same c h = ap (λ xs. show (answer.Reports xs)) h
+
   -- ---- whatever is asked
   by_callsign : (c : Callsign)
       → ((k : Callsign) → same_callsign c k ≡ true → same_callsign c k ≡ true → SeesVehicle d k s r)
@@ -322,7 +329,7 @@ module _ (d : ℕ) (s r : Room) where
   asked_same ask.Incidents at sees =
       incidents_same (sees.same_active refl) (sees.active refl) (sees.same_active_calls refl refl)
   asked_same (ask.Incident n) at sees =
-      incident_same n (sees.incident n (itself n)) (sees.same_calls n (itself n) refl) (sees.same_turns n (itself n))
+      incident_same n (sees.incident n (itself n)) (sees.same_calls n (itself n) refl) (sees.same_turns n refl)
   asked_same (ask.Propose n) at sees =
       propose_same n at (sees.incident n (itself n)) (sees.cover (λ k. refl) (λ m. refl))
       (sees.same_eligible (λ k. refl))
@@ -352,6 +359,7 @@ module _ (d : ℕ) (s r : Room) where
   asked_same (ask.Recall c) at sees = recall_same c (by_callsign c sees.vehicle)
   asked_same (ask.GiveBack c) at sees =
       give_back_same c (by_callsign c sees.vehicle) (sees.same_borrowed c (same_self c))
+  asked_same (ask.Reports c) at sees = reports_same c (sees.same_reports c refl)
   asked_same ask.Queue at sees = queue_same at (sees.same_entries refl)
   asked_same (ask.Clear c n) at sees = sees.cleared_alike c n refl
   asked_same ask.Points at sees =

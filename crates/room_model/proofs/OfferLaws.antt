@@ -52,10 +52,11 @@ use Rattle.room_model.specs.Queries.{borrowed, calls_of, held, holders, incident
 use Rattle.room_model.specs.Queries.{incidents_opened, is_attended, is_eligible, kept_call}
 use Rattle.room_model.specs.Queries.{kept_report, last_number, last_serial, lent, link_target}
 use Rattle.room_model.specs.Queries.{loan_at, loans_of, offered_by, offered_to, offers_of}
-use Rattle.room_model.specs.Queries.{open_turn, point_of, points_of, report_of, served, turns_of}
+use Rattle.room_model.specs.Queries.{open_turn, point_of, points_of, report_of, reports_of, served}
+use Rattle.room_model.specs.Queries.{turns_of}
 use Rattle.room_model.specs.Queries.{vehicle_at}
-use Rattle.room_model.specs.Queue.{clear, entries, exception, overdue, shift_over, slow, slow_turn}
-use Rattle.room_model.specs.Queue.{unanswered, uncovered, unread, unserved}
+use Rattle.room_model.specs.Queue.{clear, entries, exception, overdue, shift_over, show_reports}
+use Rattle.room_model.specs.Queue.{slow, slow_turn, unanswered, uncovered, unread, unserved}
 use Rattle.room_model.specs.Reports.{report_in, report_kept, report_somewhere}
 use Rattle.room_model.specs.Room.{IsInOrder, Room, apply, apply_one}
 use Rattle.room_model.specs.Step.{crew_asks, decided, desk_asks, position_asks, room_after}
@@ -94,9 +95,9 @@ module _ (r : Room) where
   desk_alike : (d : ℕ) (a : Ask) (at : ℕ) → speaks_of_offers a ≡ false
       → desk_asks d a at (without_offers r) ≡ desk_asks d a at r
   unfolding show_incidents show_incident propose mobilise change_needs merge close show_vehicles stand_down standby duty
-      off recall give_back clear show_points show_loans show_times active_incidents all_held assignment_of borrowed
+      off recall give_back clear show_reports show_points show_loans show_times active_incidents all_held assignment_of borrowed
       calls_of held holders incident_of incidents_opened is_attended lent loans_of open_turn point_of points_of
-      report_of served turns_of
+      report_of reports_of served turns_of
   desk_alike d (ask.Propose n) at h =
       λ j. where_active (incident_of d n r) (λ i. show (answer.Proposals (all_alike d i at j)))
   desk_alike d (ask.Lend c to until) at h = cc

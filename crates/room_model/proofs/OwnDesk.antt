@@ -4,7 +4,7 @@ use Rattle.std.proofs.lemmas.Cmp.{nat_cmp_total}
 use Rattle.std.proofs.lemmas.Map.Lookups.{exact_unsigned}
 use Rattle.std.specs.Ordering.{nat_cmp}
 use Rattle.std.specs.Prelude.{Bool, None, Option, Some, cond, false, filter, filter_map, length}
-use Rattle.std.specs.Prelude.{nat_lt, refl, ℕ, ℤ, ◌&&◌, ◌++◌, ◌==◌, ◌≡◌}
+use Rattle.std.specs.Prelude.{nat_lt, refl, ℕ, ℤ, ◌&&◌, ◌++◌, ◌==◌, ◌||◌, ◌≡◌}
 use Rattle.room_place.specs.Choice.{first, least}
 use Rattle.room_place.specs.declared.places.Place.{Place}
 use Rattle.room_types.proofs.KeyedLaws.{row_filter}
@@ -33,9 +33,9 @@ use Rattle.room_model.specs.Calls.{call_in, call_taken}
 use Rattle.room_types.specs.Codes.{is_active, is_mobilised}
 use Rattle.room_model.specs.Moments.{age}
 use Rattle.room_model.specs.Queries.{active_incidents, borrowed, calls_of, held, incident_of}
-use Rattle.room_model.specs.Queries.{incidents_opened, is_attended, is_candidate, is_nearer}
-use Rattle.room_model.specs.Queries.{last_number, link_target, open_turn, report_of, served}
-use Rattle.room_model.specs.Queries.{turns_of}
+use Rattle.room_model.specs.Queries.{incidents_opened, is_attended, is_candidate, is_given}
+use Rattle.room_model.specs.Queries.{is_nearer, last_number, link_target, open_turn, report_of}
+use Rattle.room_model.specs.Queries.{reports_of, served, turns_of}
 use Rattle.room_model.specs.Queue.{entries, exception, overdue, shift_over, slow, slow_incident}
 use Rattle.room_model.specs.Queue.{slow_turn, unanswered, uncovered, unread, unread_turn, unserved}
 use Rattle.room_model.specs.Reports.{report_held, report_in}
@@ -70,7 +70,10 @@ module _ (d : ℕ) (r : Room) (in_order : IsInOrder r) where
 
   turns_own : (n : ℕ) → turns_of d n (own d r) ≡ turns_of d n r
   unfolding turns_of
-  turns_own n = filter_filter _ (owns_turn d) r.turns (λ x h. left_true _ _ h)
+  turns_own n =
+      ap (λ cs. filter (λ (t : Turn). t.division == d && (t.incident == n || is_given cs t.incident))
+      (filter (owns_turn d) r.turns)) (calls_own n)
+      ∙ filter_filter _ (owns_turn d) r.turns (λ x h. left_true _ _ h)
 
   pub sees_incident_own : (n : ℕ) → SeesIncident d n (own d r) r
   sees_incident_own n =
@@ -101,6 +104,10 @@ module _ (d : ℕ) (r : Room) (in_order : IsInOrder r) where
       ap (keep (λ x. x.division == d))
       (row_filter numbered_cmp report_key numbered_total (owns_report d) r.reports (c, n) in_order.reports)
       ∙ keep_keep (λ x. x.division == d) (owns_report d) _ (λ x h. h)
+
+  reports_own : (c : Callsign) → reports_of d c (own d r) ≡ reports_of d c r
+  unfolding reports_of
+  reports_own c = filter_filter _ (owns_report d) r.reports (λ x h. left_true _ _ h)
 
   pub last_number_own : last_number d (own d r) ≡ last_number d r
   unfolding last_number
@@ -203,6 +210,7 @@ module _ (d : ℕ) (r : Room) (in_order : IsInOrder r) where
     same_point = λ n e. sees_own.same_point n;
     same_last_turn = λ c v e f. turn_own c;
     cleared_alike = λ c n e. clear_same d (own d r) r c n (report_own c n);
+    same_reports = λ c e. reports_own c;
     incident = λ n e. sees_incident_own n;
     same_calls = λ n e f. calls_own n;
     same_turns = λ n e. turns_own n;

@@ -21,7 +21,7 @@ use Rattle.room_model.specs.Incidents.{show_incident, show_incidents}
 use Rattle.room_model.specs.Loans.{show_loans, show_offers}
 use Rattle.room_model.specs.Points.{show_points}
 use Rattle.room_model.specs.Proposals.{propose}
-use Rattle.room_model.specs.Queue.{show_queue}
+use Rattle.room_model.specs.Queue.{show_queue, show_reports}
 use Rattle.room_model.specs.Room.{Room, apply}
 use Rattle.room_model.specs.Step.{crew_asks, desk_asks, is_of_role, is_question, position_asks}
 use Rattle.room_model.specs.Step.{room_after, who_asks}
@@ -56,7 +56,8 @@ IsQuiet who a = is_question a || not (is_of_role who a) ≡ true
 
 module _ (at : ℕ) (r : Room) where
   desk_shows : (d : ℕ) (a : Ask) → IsQuiet (Desk d) a → ChangesNothing (desk_asks d a at r)
-  unfolding show_incidents show_incident show_vehicles show_queue show_points show_loans show_offers show_times propose
+  unfolding show_incidents show_incident show_vehicles show_reports show_queue show_points show_loans show_offers
+      show_times propose
   desk_shows d (ask.Call f) h = refl
   desk_shows d a h = first_of (cc, search by_form depth 9)
 

@@ -29,7 +29,7 @@ use Rattle.room_model.specs.Loans.{accept, accepted, decline, declined, give_bac
 use Rattle.room_model.specs.Loans.{recall_lent, show_loans, show_offers, withdraw, withdrawn}
 use Rattle.room_model.specs.Points.{show_points}
 use Rattle.room_model.specs.Proposals.{propose}
-use Rattle.room_model.specs.Queue.{clear, clear_found, show_queue}
+use Rattle.room_model.specs.Queue.{clear, clear_found, show_queue, show_reports}
 use Rattle.room_model.specs.Reports.{report_held, report_in, report_kept, report_somewhere}
 use Rattle.room_model.specs.Room.{Room}
 use Rattle.room_model.specs.Step.{answer_to, crew_asks, desk_asks, is_of_role, is_of_the_room}
@@ -115,8 +115,8 @@ ruleset by_form = (
 module _ (r : Room) where
   desk_refuses : (d : ℕ) (a : Ask) (at : ℕ) → is_of_role (Desk d) a ≡ true
       → Refuses (desk_asks d a at r)
-  unfolding show_incidents show_incident show_vehicles show_queue show_points show_loans show_offers show_times propose
-      mobilise change_needs merge close stand_down standby duty off lend withdraw decline accept recall give_back clear
+  unfolding show_incidents show_incident show_vehicles show_reports show_queue show_points show_loans show_offers
+      show_times propose mobilise change_needs merge close stand_down standby duty off lend withdraw decline accept recall give_back clear
   desk_refuses d (ask.Call f) at h = cc
   desk_refuses d a at h = first_of (cc, search by_form depth 9)
 

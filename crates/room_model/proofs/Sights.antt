@@ -22,7 +22,7 @@ use Rattle.room_model.specs.Proposals.{eligible}
 use Rattle.room_model.specs.Queries.{active_incidents, all_held, assignment_of, borrowed, calls_of}
 use Rattle.room_model.specs.Queries.{held, holders, incident_of, incidents_opened, is_attended}
 use Rattle.room_model.specs.Queries.{lent, loans_of, offered_by, offered_to, offers_of, open_turn}
-use Rattle.room_model.specs.Queries.{point_of, points_of, served, turns_of}
+use Rattle.room_model.specs.Queries.{point_of, points_of, reports_of, served, turns_of}
 use Rattle.room_model.specs.Queue.{clear, entries}
 use Rattle.room_model.specs.Room.{IsInOrder, Room}
 use Rattle.room_model.specs.Shares.{own}
@@ -79,11 +79,12 @@ pub record SeesAsked (d : ℕ) (a : Ask) (at : ℕ) (s r : Room) : Type 0 where
   pub same_last_turn : (c : Callsign) (v : Vehicle) → a ≡ ask.StandDown c → held d c r ≡ Some v →
       open_turn d c s ≡ open_turn d c r
   pub cleared_alike : (c : Callsign) (n : ℕ) → a ≡ ask.Clear c n → clear d c n s ≡ clear d c n r
+  pub same_reports : (c : Callsign) → a ≡ ask.Reports c → reports_of d c s ≡ reports_of d c r
   -- incidents that it names
   pub incident : (n : ℕ) → names_incident a n ≡ true → SeesIncident d n s r
   pub same_calls : (n : ℕ) → names_incident a n ≡ true → reads_calls a ≡ true →
       calls_of d n s ≡ calls_of d n r
-  pub same_turns : (n : ℕ) → names_incident a n ≡ true → turns_of d n s ≡ turns_of d n r
+  pub same_turns : (n : ℕ) → a ≡ ask.Incident n → turns_of d n s ≡ turns_of d n r
   -- the active incidents, those of some seconds, and the queue
   pub same_active : reads_active a ≡ true → active_incidents d s ≡ active_incidents d r
   pub active : reads_active a ≡ true → (i : Incident) → Among i (active_incidents d r) →

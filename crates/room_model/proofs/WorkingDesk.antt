@@ -1,10 +1,11 @@
 -- What an ask of a desk asks of the room, it is answered alike by the rows that it reads.
-use Rattle.std.proofs.Common.{ap, eq-eqb, eqb-true, subst, sym, ◌∙◌}
+use Rattle.std.proofs.Common.{ap, arith, eq-eqb, eqb-true, subst, sym, ◌∙◌}
+use Rattle.std.proofs.lemmas.Bool.Decides.{nat_tests}
 use Rattle.std.proofs.lemmas.Bool.{le-leb}
 use Rattle.std.proofs.lemmas.Cmp.{tied_itself}
 use Rattle.std.specs.Ordering.{is_eq}
-use Rattle.std.specs.Prelude.{Bool, None, Option, Some, cond, false, is_none, is_some, length, refl}
-use Rattle.std.specs.Prelude.{true, ℕ, ◌&&◌, ◌==◌, ◌||◌, ◌≡◌, ◌≤◌}
+use Rattle.std.specs.Prelude.{Bool, None, Option, Some, cond, false, filter, is_none, is_some}
+use Rattle.std.specs.Prelude.{length, not, refl, true, ℕ, ◌&&◌, ◌==◌, ◌||◌, ◌≡◌, ◌≤◌}
 use Rattle.room_place.specs.Choice.{Among, first}
 use Rattle.room_types.proofs.KeyedLaws.{row_filter}
 use Rattle.room_types.specs.Codes.{is_active}
@@ -30,7 +31,8 @@ use Rattle.room_model.proofs.Tests.{keep_row, left_true, none_of, or_left, or_ri
 use Rattle.room_model.proofs.Tests.{row_among, row_key}
 use Rattle.room_model.specs.Proposals.{eligible}
 use Rattle.room_model.specs.Queries.{active_incidents, all_held, assignment_of, borrowed, calls_of}
-use Rattle.room_model.specs.Queries.{held, holders, incident_of, is_attended, lent, loans_of}
+use Rattle.room_model.specs.Queries.{held, holders, incident_of, is_attended, is_given, lent}
+use Rattle.room_model.specs.Queries.{loans_of}
 use Rattle.room_model.specs.Queries.{offered_by, offered_to, offers_of, open_turn, point_of}
 use Rattle.room_model.specs.Queries.{points_of, report_of, served, turns_of}
 use Rattle.room_model.specs.RoomAgreements.{IsWellFormed, OpenAgrees, TurnAgrees, TurnIsActive}
@@ -199,13 +201,6 @@ module _ (d : ℕ) (a : Ask) (at : ℕ) (r : Room) (formed : IsWellFormed r) whe
       both_true _ _ (left_true _ _ g) (both_true _ _ calls
       (subst (λ m. reads_number d a r m ≡ true) (sym (eqb-true c.incident n (right_true _ _ g))) h)))
 
-  pub turns_read : (n : ℕ) → reads_number d a r n ≡ true
-      → turns_of d n (working d a at r) ≡ turns_of d n r
-  unfolding turns_of
-  turns_read n h =
-      filter_filter _ (λ t. t.division == d && (reads_number d a r t.incident || names_turn d a r t)) r.turns
-      (λ t g. read_turn t n h (left_true _ _ g) (right_true _ _ g))
-
   sees_read : (n : ℕ) → reads_number d a r n ≡ true
       → incident_of d n (working d a at r) ≡ incident_of d n r
       → SeesIncident d n (working d a at r) r
@@ -330,6 +325,32 @@ module _ (d : ℕ) (a : Ask) (at : ℕ) (r : Room) (formed : IsWellFormed r) whe
       (λ x. x.division == d && reads_report a x) r.reports (c, n) formed.order.reports)
       ∙ keep_keep_row numbered_cmp report_key (λ x. x.division == d) (λ x. x.division == d && reads_report a x)
       r.reports (c, n) (λ x e g. both_true _ _ g (h x e))
+
+-- ---- the turns of an incident, and of those that were merged into it
+same_back : (m n : ℕ) → (m == n) ≡ (n == m)
+same_back m n = grind (arith, nat_tests)
+
+or_merged : (b c : Bool) → b || c ≡ true → b || (not b && c) ≡ true
+or_merged true c h = refl
+or_merged false c h = h
+
+module _ (d : ℕ) (at : ℕ) (r : Room) (formed : IsWellFormed r) (n : ℕ) where
+  shown_read : (t : Turn) → t.division == d
+      && (t.incident == n || is_given (calls_of d n r) t.incident) ≡ true
+      → t.division == d && (reads_number d (ask.Incident n) r t.incident || names_turn d (ask.Incident n) r t) ≡ true
+  shown_read t g =
+      both_true _ _ (left_true _ _ g)
+      (or_merged (n == t.incident) (is_given (calls_of d n r) t.incident)
+      (rw (same_back n t.incident) (right_true _ _ g)))
+
+  pub turns_read : turns_of d n (working d (ask.Incident n) at r) ≡ turns_of d n r
+  unfolding turns_of
+  turns_read =
+      ap (λ cs. filter (λ (t : Turn). t.division == d && (t.incident == n || is_given cs t.incident))
+      (working d (ask.Incident n) at r).turns) (calls_read d (ask.Incident n) at r formed n refl (eq-eqb n n refl))
+      ∙ filter_filter _
+      (λ t. t.division == d && (reads_number d (ask.Incident n) r t.incident || names_turn d (ask.Incident n) r t))
+      r.turns shown_read
 
 -- ---- the turn of a vehicle's last order
 module _ (d : ℕ) (at : ℕ) (r : Room) (formed : IsWellFormed r) (c : Callsign) (v : Vehicle) where

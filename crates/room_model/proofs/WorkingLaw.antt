@@ -19,7 +19,7 @@ use Rattle.room_model.proofs.WorkingDesk.{offered_by_named, offered_to_named, of
 use Rattle.room_model.proofs.WorkingDesk.{point_named, points_read, report_named, sees_cover}
 use Rattle.room_model.proofs.WorkingDesk.{sees_named, sees_shown, sees_vehicle, turns_read}
 use Rattle.room_model.proofs.WorkingQueue.{entries_read}
-use Rattle.room_model.specs.Queries.{held, incidents_opened, open_turn}
+use Rattle.room_model.specs.Queries.{held, incidents_opened, open_turn, reports_of, turns_of}
 use Rattle.room_model.specs.Queue.{clear, entries}
 use Rattle.room_model.specs.Room.{Room}
 use Rattle.room_model.specs.Step.{desk_asks}
@@ -33,6 +33,12 @@ unfolding incidents_opened
 opened_read d from to at r =
     filter_filter _ (λ i. i.division == d && reads_incident (ask.Times from to) at i) r.incidents
     (λ i g. both_true _ _ (left_true _ _ g) (right_true (not (is_merged i.state)) _ (right_true _ _ g)))
+
+reports_read : (d : ℕ) (c : Callsign) (at : ℕ) (r : Room)
+    → reports_of d c (working d (ask.Reports c) at r) ≡ reports_of d c r
+unfolding reports_of
+reports_read d c at r =
+    filter_filter _ (λ x. x.division == d && reads_report (ask.Reports c) x) r.reports (λ x g. g)
 
 report_read : (c : Callsign) (n : ℕ) (x : Report)
     → is_eq (numbered_cmp (c, n) (report_key x)) ≡ true → reads_report (ask.Clear c n) x ≡ true
@@ -64,9 +70,11 @@ module _ (d at : ℕ) (r : Room) (formed : IsWellFormed r) where
     same_point = point_named d a at r formed;
     same_last_turn = turn_of a;
     cleared_alike = λ c n e. subst (λ x. clear d c n (working d x at r) ≡ clear d c n r) (sym e) (cleared_read c n);
+    same_reports = λ c e.
+        subst (λ x. reports_of d c (working d x at r) ≡ reports_of d c r) (sym e) (reports_read d c at r);
     incident = sees_named d a at r formed;
     same_calls = λ n e calls. calls_read d a at r formed n calls (number_named d a at r formed n e);
-    same_turns = λ n e. turns_read d a at r formed n (number_named d a at r formed n e);
+    same_turns = λ n e. subst (λ x. turns_of d n (working d x at r) ≡ turns_of d n r) (sym e) (turns_read d at r formed n);
     same_active = active_incidents_read d a at r formed;
     active = sees_shown d a at r formed;
     same_active_calls = calls_shown d a at r formed;

@@ -13,8 +13,8 @@ use Rattle.room_model.specs.Queries.{borrowed, calls_of, held, holders, incident
 use Rattle.room_model.specs.Queries.{incidents_opened, is_attended, kept_call, kept_report}
 use Rattle.room_model.specs.Queries.{last_number, lent, link_target, loan_at, loans_of, offer_at}
 use Rattle.room_model.specs.Queries.{offered_by, offered_to, offers_of, open_turn, point_of}
-use Rattle.room_model.specs.Queries.{points_of, report_of, served, vehicle_at}
-use Rattle.room_model.specs.Queue.{clear, entries, show_queue}
+use Rattle.room_model.specs.Queries.{points_of, report_of, reports_of, served, turns_of, vehicle_at}
+use Rattle.room_model.specs.Queue.{clear, entries, show_queue, show_reports}
 use Rattle.room_model.specs.Reports.{report_in}
 use Rattle.room_model.specs.Vehicles.{duty, mobilise, off, show_vehicles, stand_down, standby}
 use Rattle.room_place.specs.Places.{distance}
@@ -26,6 +26,6 @@ unfolding accept active_incidents all_held assignment_at assignment_of borrowed 
     holders incident_of incidents_opened is_attended kept_call kept_report last_number lend
     lent link_target loan_at loans_of merge mobilise off offer_at offered_by offered_to
     offers_of open_turn point_of points_of propose recall refuse_if report_in report_of
-    served show_incidents show_loans show_offers show_points show_queue show_times
-    show_vehicles stand_down standby vehicle_at withdraw
+    reports_of served show_incidents show_loans show_offers show_points show_queue show_reports
+    show_times show_vehicles stand_down standby turns_of vehicle_at withdraw
 machine = true

@@ -1,5 +1,5 @@
 -- Incidents: how they are listed, merged, changed and closed, and which turns serve them.
-use Rattle.std.specs.Prelude.{Err, Ok, Option, Some, [], option_map, ℕ, ◌∷◌, ◌≡◌}
+use Rattle.std.specs.Prelude.{Err, List, Ok, Option, Some, [], map, option_map, ℕ, ◌∷◌, ◌≡◌}
 use Rattle.room_types.specs.declared.answers.Answer.TheVariants as answer
 use Rattle.room_types.specs.declared.answers.IncidentLine.{IncidentLine}
 use Rattle.room_types.specs.declared.asks.Ask.TheVariants as ask
@@ -7,7 +7,8 @@ use Rattle.room_types.specs.declared.asks.Event.{Event}
 use Rattle.room_types.specs.declared.asks.Who.TheVariants.{Crew, Desk}
 use Rattle.room_types.specs.declared.codes.Button.TheVariants as button
 use Rattle.room_types.specs.declared.refusal_statuses.Refusal.TheVariants as refusal
-use Rattle.room_model.specs.Queries.{incident_of}
+use Rattle.room_types.specs.Texts.{Callsign}
+use Rattle.room_model.specs.Queries.{incident_of, turns_of}
 use Rattle.room_model.specs.Room.{Room}
 use Rattle.room_model.specs.Step.{answer_to}
 use Rattle.room_model.specs.CallExamples.{after_a_call}
@@ -50,6 +51,14 @@ abbrev pub ordered_in_turn : Room
 ordered_in_turn = a1_sent ▸ call_at 2005 2 "TQ310800" ▸ at 2010 (Desk 1)
     (ask.StandDown A1) ▸ at 2100 (Desk 1) (ask.Mobilise 2 A2)
 
+-- then incident 1 is merged into 2
+abbrev pub merged_in_turn : Room
+merged_in_turn = ordered_in_turn ▸ at 2200 (Desk 1) (ask.Merge 1 2)
+
+-- the vehicles whose turns an incident's history shows
+abbrev pub sent_to : ℕ → Room → List Callsign
+sent_to number r = map (λ t. t.callsign) (turns_of 1 number r)
+
 abbrev pub first_order_of : ℕ → Room → Option (Option ℕ)
 first_order_of number r = option_map (λ i. i.first_order) (incident_of 1 number r)
 
@@ -74,8 +83,10 @@ pub record IncidentExamples : Type 0 where
   pub merging_keeps_the_earlier_opening_of_the_one_merged : opening_of 2 merged ≡ Some 1000
   pub merging_keeps_the_earlier_opening_of_the_other : opening_of 1
       (two_calls ▸ at 1200 (Desk 1) (ask.Merge 2 1)) ≡ Some 1000
-  pub merging_keeps_the_earlier_first_order : first_order_of 2
-      (ordered_in_turn ▸ at 2200 (Desk 1) (ask.Merge 1 2)) ≡ Some (Some 2000)
+  pub merging_keeps_the_earlier_first_order : first_order_of 2 merged_in_turn ≡ Some (Some 2000)
+  pub before_they_merge_each_has_its_own_turns : sent_to 2 ordered_in_turn ≡ A2 ∷ []
+  pub a_history_has_the_turns_of_one_merged_into_it : sent_to 2 merged_in_turn ≡ A1 ∷ A2 ∷ []
+  pub a_merged_incident_has_its_own_turns : sent_to 1 merged_in_turn ≡ A1 ∷ []
   pub merging_keeps_the_only_first_order : first_order_of 2
       (a1_sent ▸ call_at 2005 2 "TQ310800" ▸ at 2010 (Desk 1) (ask.StandDown A1) ▸ at 2200 (Desk 1)
       (ask.Merge 1 2)) ≡ Some (Some 2000)

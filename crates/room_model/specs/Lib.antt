@@ -50,11 +50,10 @@ pub mod Rooms
 -- the digests of a room in digits, what a head says of a room, and why a room comes to none
 pub mod Digests
 -- ---- worked examples
--- the definitions that the check computes, the words of a step, a room to begin with, and its rows
+-- the definitions that the check computes, the words of a step, and a room to begin with
 pub mod ComputedDefinitions
 pub mod StepWords
 pub mod ExampleRoom
-pub mod ExampleRows
 -- a group of requests a file
 pub mod PlaceExamples
 pub mod CallExamples
@@ -65,6 +64,3 @@ pub mod ReportExamples
 pub mod ProposalExamples
 pub mod QueueExamples
 pub mod TimesExamples
--- steps that another program sampled
-pub mod SampledSteps
-pub mod SampledRooms

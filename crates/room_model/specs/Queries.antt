@@ -89,9 +89,16 @@ incidents_opened d from to r = filter
 unfoldable pub calls_of : ℕ → ℕ → Room → List Call
 calls_of d n r = filter (λ c. c.division == d && c.incident == n) r.calls
 
--- the turns of the vehicles that were sent to an incident
+-- one of these calls was given the incident of this number: when the call came, it opened that
+-- incident, or was linked to it
+abbrev pub is_given : List Call → ℕ → Bool
+is_given calls n = list_any (λ c. c.given == n) calls
+
+-- the turns of the vehicles that were sent to an incident, or to one that was merged into it: its
+-- calls belong to the other then, and keep the number that they were given
 unfoldable pub turns_of : ℕ → ℕ → Room → List Turn
-turns_of d n r = filter (λ t. t.division == d && t.incident == n) r.turns
+turns_of d n r =
+    filter (λ t. t.division == d && (t.incident == n || is_given (calls_of d n r) t.incident)) r.turns
 
 -- the number that the division gave last
 unfoldable pub last_number : ℕ → Room → Option Division
@@ -151,6 +158,10 @@ holders d n at r = filter (λ v. is_eligible d at v && has_post n v.post) r.vehi
 -- the vehicle's report of a number, where division d owns it
 unfoldable pub report_of : ℕ → Callsign → ℕ → Room → Option Report
 report_of d c n r = keep (λ x. x.division == d) (row_at numbered_cmp report_key r.reports (c, n))
+
+-- the vehicle's reports that division d owns
+unfoldable pub reports_of : ℕ → Callsign → Room → List Report
+reports_of d c r = filter (λ x. x.division == d && same_callsign c x.callsign) r.reports
 
 -- ---- a position's calls
 -- the greatest serial of calls, 0 where there are none

@@ -18,7 +18,8 @@ use Rattle.room_types.specs.Texts.{Callsign}
 use Rattle.room_types.specs.Codes.{is_active, is_exception, is_mobilised, is_normal, is_off}
 use Rattle.room_model.specs.Decisions.{Verdict, done, refuse_if, show}
 use Rattle.room_model.specs.Moments.{age, scene_limit}
-use Rattle.room_model.specs.Queries.{holders, incident_of, open_turn, report_of, served}
+use Rattle.room_model.specs.Queries.{holders, incident_of, open_turn, report_of, reports_of}
+use Rattle.room_model.specs.Queries.{served}
 use Rattle.room_model.specs.Room.{Room}
 use Rattle.room_types.specs.declared.answers.Answer.TheVariants as answer
 use Rattle.room_types.specs.declared.refusal_statuses.Refusal.TheVariants as refusal
@@ -148,6 +149,11 @@ pub record IsQueueOf (all q : List QueueEntry) : Type 0 where
 
 unfoldable pub show_queue : ℕ → ℕ → Room → Verdict
 show_queue d at r = show (answer.Queue (ordered_from [] (entries d at r)))
+
+-- ---- reports
+-- those that came while the division held the vehicle
+unfoldable pub show_reports : ℕ → Callsign → Room → Verdict
+show_reports d c r = show (answer.Reports (reports_of d c r))
 
 -- ---- clear
 abbrev pub clear_found : Option Report → Verdict

@@ -1,6 +1,7 @@
 -- Reports: what a button comes to, what a repeated, late, stale or wrong report changes, and who
 -- clears it.
-use Rattle.std.specs.Prelude.{Err, None, Ok, Option, Some, option_map, ℕ, ◌≡◌}
+use Rattle.std.specs.Prelude.{Err, None, Ok, Option, Some, [], false, option_map, true}
+use Rattle.std.specs.Prelude.{ℕ, ◌∷◌, ◌≡◌}
 use Rattle.room_types.specs.declared.answers.Answer.TheVariants as answer
 use Rattle.room_types.specs.declared.asks.Ask.TheVariants as ask
 use Rattle.room_types.specs.declared.asks.Event.{Event}
@@ -11,6 +12,7 @@ use Rattle.room_types.specs.declared.codes.Status.TheVariants.{AtScene, Availabl
 use Rattle.room_types.specs.declared.codes.Status.TheVariants.{Mobilised, OffDuty, Offered}
 use Rattle.room_types.specs.declared.codes.Status.TheVariants.{Returning}
 use Rattle.room_types.specs.declared.refusal_statuses.Refusal.TheVariants as refusal
+use Rattle.room_types.specs.declared.tables.Report.{Report}
 use Rattle.room_model.specs.Queries.{assignment_at, kept_report}
 use Rattle.room_model.specs.Room.{Room}
 use Rattle.room_model.specs.Step.{answer_to}
@@ -59,6 +61,58 @@ late_position = at 2100 (Crew A1) (press 6 button.Position 0 "TQ300800")
 -- the division that has a report of A1
 abbrev pub owner_of : ℕ → Room → Option ℕ
 owner_of number r = option_map (λ x. x.division) (kept_report A1 number r)
+
+-- what a division asks about A1's reports
+abbrev pub reports_for : ℕ → Event
+reports_for d = at 2200 (Desk d) (ask.Reports A1)
+
+-- the three of a1_was_late, as they are kept
+abbrev pub mobile_row : Report
+mobile_row = record {
+  callsign = A1;
+  number = 1;
+  button = button.Mobile;
+  order = 1;
+  place = place "TQ303804";
+  at = 2010;
+  division = 1;
+  outcome = Normal;
+  status = Mobilised;
+  cleared = false;
+}
+
+abbrev pub late_row : Report
+late_row = record mobile_row {
+  number = 2;
+  button = button.Scene;
+  place = place "TQ310800";
+  at = 2030;
+  outcome = Late;
+  status = Leaving;
+}
+
+abbrev pub skipped_row : Report
+skipped_row = record mobile_row {
+  number = 3;
+  button = button.Leave;
+  place = place "TQ300800";
+  at = 2020;
+  outcome = Skipped;
+  status = Leaving;
+}
+
+-- the one of late_position
+abbrev pub borrowed_row : Report
+borrowed_row = record mobile_row {
+  number = 6;
+  button = button.Position;
+  order = 0;
+  place = place "TQ300800";
+  at = 2100;
+  division = 2;
+  outcome = Late;
+  status = Available;
+}
 
 abbrev pub clear_2 : Event
 clear_2 = at 2040 (Desk 1) (ask.Clear A1 2)
@@ -122,6 +176,13 @@ pub record ReportExamples : Type 0 where
   pub a_report_belongs_to_the_holder_of_then : owner_of 7 (reported_and_lent ▸ here) ≡ Some 1
   pub a_later_report_belongs_to_the_borrower : owner_of 6 (reported_and_lent ▸ late_position)
       ≡ Some 2
+  pub a_vehicles_reports_stand_by_their_numbers : answer_to (reports_for 1) a1_was_late
+      ≡ Ok (answer.Reports (mobile_row ∷ late_row ∷ skipped_row ∷ []))
+  pub a_cleared_report_stands_as_cleared : answer_to (reports_for 1) (a1_was_late ▸ clear_2)
+      ≡ Ok (answer.Reports (mobile_row ∷ record late_row { cleared = true } ∷ skipped_row ∷ []))
+  pub a_division_sees_the_reports_of_its_time : answer_to (reports_for 2)
+      (reported_and_lent ▸ late_position) ≡ Ok (answer.Reports (borrowed_row ∷ []))
+  pub another_division_sees_none : answer_to (reports_for 2) a1_was_late ≡ Ok (answer.Reports [])
   pub an_exception_is_cleared : answer_to clear_2 a1_was_late ≡ Ok answer.Done
   pub a_cleared_exception_is_not_cleared_again : answer_to clear_2 (a1_was_late ▸ clear_2)
       ≡ Err refusal.NoSuchException

@@ -20,7 +20,7 @@ use Rattle.room_model.specs.Loans.{show_offers, withdraw}
 use Rattle.room_model.specs.Points.{set_point, show_points}
 use Rattle.room_model.specs.Proposals.{propose}
 use Rattle.room_model.specs.Queries.{vehicle_at}
-use Rattle.room_model.specs.Queue.{clear, show_queue}
+use Rattle.room_model.specs.Queue.{clear, show_queue, show_reports}
 use Rattle.room_model.specs.Reports.{show_last, show_order, take_report}
 use Rattle.room_model.specs.Room.{Room, apply}
 use Rattle.room_model.specs.Vehicles.{duty, mobilise, off, show_vehicles, stand_down, standby}
@@ -47,6 +47,7 @@ desk_asks d (ask.Decline c) at r = decline d c r
 desk_asks d (ask.Accept c) at r = accept d c at r
 desk_asks d (ask.Recall c) at r = recall d c r
 desk_asks d (ask.GiveBack c) at r = give_back d c r
+desk_asks d (ask.Reports c) at r = show_reports d c r
 desk_asks d ask.Queue at r = show_queue d at r
 desk_asks d (ask.Clear c n) at r = clear d c n r
 desk_asks d ask.Points at r = show_points d at r
@@ -110,6 +111,7 @@ may_lack_memory (ask.Incident n) = true
 may_lack_memory (ask.Propose n) = true
 may_lack_memory (ask.Merge n m) = true
 may_lack_memory ask.Vehicles = true
+may_lack_memory (ask.Reports c) = true
 may_lack_memory ask.Queue = true
 may_lack_memory ask.Points = true
 may_lack_memory ask.Loans = true

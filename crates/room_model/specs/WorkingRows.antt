@@ -3,7 +3,7 @@
 use Rattle.std.specs.Int.{abs_diff}
 use Rattle.std.specs.Ordering.{is_eq}
 use Rattle.std.specs.Prelude.{Bool, None, Option, Some, false, filter, int_le, int_lt, is_some}
-use Rattle.std.specs.Prelude.{nat_le, pos, true, ℕ, ◌&&◌, ◌==◌, ◌||◌}
+use Rattle.std.specs.Prelude.{nat_le, not, pos, true, ℕ, ◌&&◌, ◌==◌, ◌||◌}
 use Rattle.room_place.specs.declared.places.Place.{Place}
 use Rattle.room_types.specs.Codes.{is_active, is_exception}
 use Rattle.room_types.specs.KeyedRows.{keep}
@@ -17,7 +17,7 @@ use Rattle.room_types.specs.declared.tables.Report.{Report}
 use Rattle.room_types.specs.declared.tables.Turn.{Turn}
 use Rattle.room_types.specs.declared.tables.Vehicle.{Vehicle}
 use Rattle.room_model.specs.Moments.{age, link_metres, link_seconds}
-use Rattle.room_model.specs.Queries.{held, incident_of}
+use Rattle.room_model.specs.Queries.{calls_of, held, incident_of, is_given}
 use Rattle.room_model.specs.Room.{Room}
 use Rattle.room_types.specs.declared.asks.Ask.TheVariants as ask
 
@@ -85,11 +85,13 @@ abbrev pub reads_exceptions : Ask → Bool
 reads_exceptions ask.Queue = true
 reads_exceptions a = false
 
+-- the report of a vehicle and a number, or all of a vehicle
 abbrev pub names_report : Ask → Callsign → ℕ → Bool
 names_report (ask.Clear c n) k m = same_callsign c k && n == m
+names_report (ask.Reports c) k m = same_callsign c k
 names_report a k m = false
 
--- an exception that is read, or the report that is named
+-- an exception that is read, or a report that is named
 abbrev pub reads_report : Ask → Report → Bool
 reads_report a x =
     reads_exceptions a && is_exception x || names_report a x.callsign x.number
@@ -164,9 +166,12 @@ is_last_turn None t = false
 is_last_turn (Some v) t =
     nat_le 1 v.last_order && is_eq (numbered_cmp (v.callsign, v.last_order) (turn_key t))
 
--- the turn of the named vehicle's last order
+-- the turn of the named vehicle's last order, or one of another incident, which was merged into the
+-- named one
 abbrev pub names_turn : ℕ → Ask → Room → Turn → Bool
 names_turn d (ask.StandDown c) r t = is_last_turn (held d c r) t
+names_turn d (ask.Incident n) r t =
+    not (n == t.incident) && is_given (calls_of d n r) t.incident
 names_turn d a r t = false
 
 -- the rows of division d's share that an ask at a moment reads

@@ -1,7 +1,6 @@
 //! The machine in examples that the check computes. Each function does nothing; what it ensures is
 //! that the machine answers as the rules say, in rooms small enough to be followed by hand. Steps
-//! that an independent program sampled from random runs stand in `proofs/`, and are computed by the
-//! same check.
+//! that an independent program sampled from random runs stand in `room_samples`.
 ghost use Rattle.room_model.specs.CallExamples.{CallExamples};
 ghost use Rattle.room_model.specs.IncidentExamples.{IncidentExamples};
 ghost use Rattle.room_model.specs.LoansAndOffers.{LoanExamples, OfferExamples};

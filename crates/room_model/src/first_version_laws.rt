@@ -18,9 +18,9 @@ ghost use Rattle.room_model.specs.Run.{room_run};
 ghost use Rattle.room_model.specs.Shares.{mine, own};
 ghost use Rattle.room_model.specs.Step.{decided, room_after};
 
-/// What doesn't speak of offers is decided by the rows that a room had before there were any. They
-/// change alike, and each division is handed the same. The offers are rows beside the others in a
-/// share, and in the rows of a vehicle.
+/// An event that doesn't speak of offers is decided by the rows that a room had before there were
+/// any. They change alike, and each division is handed the same. The offers are rows beside the
+/// others in a share, and in the rows of a vehicle.
 pub fn the_rest_needs_no_offers()
     ensures decision { (e : Event) (r : Room) →
         speaks_of_offers e.ask ≡ false →
@@ -65,7 +65,7 @@ pub fn nothing_is_offered_by_itself()
         IsUnoffered (room_run es r) }
 {}
 
-/// Of what a well-formed room agrees on, only one thing is about offers. Where there are none it
+/// Only one condition of well-formedness mentions offers. Where there are none it
 /// says that no vehicle is at status 7, the status that came with offers; so an old room is
 /// well-formed as it was.
 pub fn unoffered_rooms_agree()

@@ -23,8 +23,8 @@ ghost use Rattle.room_model.specs.Step.{answer_to, decided, room_after};
 ghost use Rattle.room_model.specs.RoomAgreements.{IsWellFormed};
 ghost use Rattle.room_model.specs.WorkingRows.{working};
 
-/// Whatever happens, a share becomes what the division is handed makes of it. Its desk gets the
-/// answers to its own requests, as the share gives them.
+/// Only what a division is handed changes its share. Its desk gets the answers to its own requests,
+/// as the share gives them.
 pub fn desks_are_apart()
     ensures share { (d : ℕ) (r : Room) (e : Event) →
         IsWellFormed r →
@@ -126,7 +126,7 @@ pub fn offers_are_answered_by_themselves()
         decided (by_desk d (Decline c) at) r ≡ decided (by_desk d (Decline c) at) s }
 {}
 
-/// What a share becomes depends only on the share and the changes.
+/// A share and the changes decide what the share becomes.
 pub fn shares_follow()
     ensures { (d : ℕ) (r : Room) (changes : List Change) →
         IsInOrder r → ArePlain changes →

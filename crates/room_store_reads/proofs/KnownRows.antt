@@ -73,6 +73,10 @@ known_or_not true true false = refl
 known_or_not true false reads = refl
 known_or_not false known reads = refl
 
+pub own_or : (own b c : Bool) → (own && b) || (own && c) ≡ own && (b || c)
+own_or true b c = refl
+own_or false b c = refl
+
 pub read_or_not : (own is_read known reads : Bool)
     → (own && (is_read && (known && reads))) || (own && (is_read && (not known && reads)))
     ≡ own && (is_read && reads)

@@ -3,6 +3,8 @@ pub mod ReadFilters
 pub mod KeyedUnions
 pub mod Selected
 pub mod CrewReads
+-- which incidents were merged into one
+pub mod MergedNumbers
 -- which incidents that are read are known
 pub mod KnownRows
 -- the rows that a request reads, of the fleet and beside it

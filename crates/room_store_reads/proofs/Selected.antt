@@ -11,20 +11,23 @@ use Rattle.room_types.specs.declared.codes.Outcome.{Outcome}
 use Rattle.room_types.specs.declared.codes.Outcome.TheVariants.{Late, Normal, Skipped, Stale, Wrong}
 use Rattle.room_types.specs.declared.tables.Incident.{Incident}
 use Rattle.room_types.specs.declared.tables.Report.{Report}
-use Rattle.room_model.specs.Queries.{incident_of}
+use Rattle.room_model.specs.Queries.{calls_of, incident_of}
 use Rattle.room_model.specs.Room.{Room}
 use Rattle.room_model.specs.WorkingRows.{reads_exceptions, reads_incident, reads_number}
 use Rattle.room_model.specs.WorkingRows.{reads_report, working}
 use Rattle.room_store_cache.specs.IncidentNumbers.{contains}
 use Rattle.room_store_cache.proofs.Filters.{and_none, filter_as, or_assoc, or_none}
 use Rattle.room_store_reads.specs.Partitions.{any}
-use Rattle.room_store_reads.specs.RequestReads.{Selects, is_read, is_report, names, names_one}
-use Rattle.room_store_reads.specs.RequestReads.{opens, reads_turns, shows, shows_exceptions}
+use Rattle.room_store_reads.specs.RequestReads.{AreCallsFor, IsAskedFor, Selects, is_read}
+use Rattle.room_store_reads.specs.RequestReads.{is_report, names, names_one, opens, reads_turns}
+use Rattle.room_store_reads.specs.RequestReads.{shows, shows_exceptions}
 use Rattle.room_store_reads.specs.declared.request_reads.Incidents.{Incidents}
 use Rattle.room_store_reads.specs.declared.request_reads.Incidents.TheVariants as incidents
 use Rattle.room_store_reads.specs.declared.request_reads.Reads.{Reads}
 use Rattle.room_store_reads.specs.declared.request_reads.Reports.{Reports}
 use Rattle.room_store_reads.specs.declared.request_reads.Reports.TheVariants as reports
+use Rattle.room_store_reads.specs.declared.request_reads.Turns.{Turns}
+use Rattle.room_store_reads.specs.declared.request_reads.Turns.TheVariants as turns
 
 -- an incident is read as it is active, named or was opened then
 read_as : (x : Incidents) (at : ℕ) (i : Incident) → is_read x at i
@@ -43,6 +46,7 @@ reported_as : (x : Reports) (y : Report) → is_report x y
 reported_as reports.Nothing y = refl
 reported_as reports.Uncleared y = sym (or_none (not (is_normal y.outcome) && not y.cleared))
 reported_as (reports.One r) y = refl
+reported_as (reports.Of c) y = refl
 
 module _ {d : ℕ} {a : Ask} {x : Reads} (selects : Selects d a x) where
   pub incident_is : (at : ℕ) (i : Incident) → is_read x.incidents at i ≡ reads_incident a at i
@@ -126,6 +130,15 @@ pub own_contains : (own : Bool) (n : ℕ) (ms : List ℕ)
 own_contains own n [] = sym (and_none own)
 own_contains own n (m ∷ ms) =
     (λ i. (same_back n m i && own) || own_contains own n ms i) ∙ one_more own (m == n) (contains n ms)
+
+-- the calls that a history reads are those of its incident
+pub calls_read : (d : ℕ) (a : Ask) (at : ℕ) (room : Room) (x : Turns) → IsAskedFor x a
+    → AreCallsFor d x room (working d a at room).calls
+unfolding calls_of
+calls_read d a at room (turns.Merged n) history =
+    rw history (filter_as _ _ room.calls (λ c. ap (λ b. (c.division == d) && b) (same_back n c.incident)))
+calls_read d a at room turns.Nothing history = tt
+calls_read d a at room (turns.Last c) history = tt
 
 -- a division's row of one of two numbers
 pub one_of_two : (own b c : Bool) → (own && b) || ((own && c) || false) ≡ own && (b || c)

@@ -1,17 +1,18 @@
 -- What a request reads: how much of each table, of its division's rows.
 use Rattle.std.specs.Ordering.{nat_cmp}
-use Rattle.std.specs.Prelude.{Bool, IfSome, None, Option, Some, false, int_le, int_lt, is_some, pos}
-use Rattle.std.specs.Prelude.{true, ℕ, ◌&&◌, ◌==◌, ◌||◌, ◌≡◌}
+use Rattle.std.specs.Prelude.{Bool, List, false, int_le, int_lt, is_some, not, pos, true, ℕ, ◌&&◌}
+use Rattle.std.specs.Prelude.{◌==◌, ◌||◌, ◌≡◌}
 use Rattle.room_types.specs.KeyedRows.{keep}
 use Rattle.room_types.specs.Codes.{is_active, is_exception}
 use Rattle.room_types.specs.Keys.{callsign_cmp, pair_cmp, same_callsign}
 use Rattle.room_types.specs.Texts.{Callsign}
 use Rattle.room_types.specs.declared.asks.Ask.{Ask}
-use Rattle.room_types.specs.declared.asks.Ask.TheVariants.{Call, StandDown}
+use Rattle.room_types.specs.declared.asks.Ask.TheVariants as ask
+use Rattle.room_types.specs.declared.tables.Call.{Call}
 use Rattle.room_types.specs.declared.tables.Incident.{Incident}
 use Rattle.room_types.specs.declared.tables.Report.{Report}
 use Rattle.room_types.specs.declared.tables.Turn.{Turn}
-use Rattle.room_model.specs.Queries.{held, incident_of}
+use Rattle.room_model.specs.Queries.{calls_of, held, incident_of, is_given}
 use Rattle.room_model.specs.Room.{Room}
 use Rattle.room_model.specs.WorkingRows.{is_last_turn, names_incident, names_opening, names_report}
 use Rattle.room_model.specs.WorkingRows.{names_turn, reads_active, reads_assignments, reads_calls}
@@ -23,6 +24,8 @@ use Rattle.room_store_reads.specs.declared.request_reads.Incidents.TheVariants a
 use Rattle.room_store_reads.specs.declared.request_reads.Reads.{Reads}
 use Rattle.room_store_reads.specs.declared.request_reads.Reports.{Reports}
 use Rattle.room_store_reads.specs.declared.request_reads.Reports.TheVariants as reports
+use Rattle.room_store_reads.specs.declared.request_reads.Turns.{Turns}
+use Rattle.room_store_reads.specs.declared.request_reads.Turns.TheVariants as turns
 
 -- the active incidents
 abbrev pub shows : Incidents → Bool
@@ -38,7 +41,7 @@ names x n = false
 -- an incident that was opened then, or that a call at `at` may be linked to
 abbrev pub opens : Incidents → ℕ → Incident → Bool
 opens (incidents.Opened from to) at i = int_le from (pos i.opened) && int_lt (pos i.opened) to
-opens (incidents.Near form) at i = names_opening (Call form) at i
+opens (incidents.Near form) at i = names_opening (ask.Call form) at i
 opens x at i = false
 
 -- an incident is read
@@ -63,6 +66,7 @@ shows_exceptions x = false
 -- the report of this vehicle and number
 abbrev pub names_one : Reports → Callsign → ℕ → Bool
 names_one (reports.One r) c n = same_callsign r.0 c && r.1 == n
+names_one (reports.Of k) c n = same_callsign k c
 names_one x c n = false
 
 -- a report is read
@@ -70,15 +74,31 @@ abbrev pub is_report : Reports → Report → Bool
 is_report reports.Nothing x = false
 is_report reports.Uncleared x = is_exception x
 is_report (reports.One r) x = names_one (reports.One r) x.callsign x.number
+is_report (reports.Of k) x = names_one (reports.Of k) x.callsign x.number
 
--- the turn of the last order of the vehicle, if there is one
-abbrev pub is_last_of : ℕ → Option Callsign → Room → Turn → Bool
-is_last_of d None room t = false
-is_last_of d (Some c) room t = is_last_turn (held d c room) t
+-- another incident that one of these calls was given
+abbrev pub is_merged : ℕ → List Call → ℕ → Bool
+is_merged n calls m = not (n == m) && is_given calls m
+
+-- the turn of the last order of the vehicle, or one of an incident that was merged into this one
+abbrev pub is_turn_of : ℕ → Turns → Room → Turn → Bool
+is_turn_of d turns.Nothing room t = false
+is_turn_of d (turns.Last c) room t = is_last_turn (held d c room) t
+is_turn_of d (turns.Merged n) room t = is_merged n (calls_of d n room) t.incident
+
+-- these are the calls that say which were merged
+abbrev pub AreCallsFor : ℕ → Turns → Room → List Call → Type 0
+AreCallsFor d (turns.Merged n) room calls = calls ≡ calls_of d n room
+AreCallsFor d x room calls = Unit {0}
+
+-- only the history of an incident reads the turns of those that were merged into it
+abbrev pub IsAskedFor : Turns → Ask → Type 0
+IsAskedFor (turns.Merged n) a = a ≡ ask.Incident n
+IsAskedFor x a = Unit {0}
 
 -- nothing is read but rows of the fleet
-abbrev pub is_of_fleet : Incidents → Reports → Option Callsign → Bool
-is_of_fleet incidents.Nothing reports.Nothing None = true
+abbrev pub is_of_fleet : Incidents → Reports → Turns → Bool
+is_of_fleet incidents.Nothing reports.Nothing turns.Nothing = true
 is_of_fleet x y z = false
 
 -- It is what the ask of the division's desk, or a call that is placed in it, reads.
@@ -95,5 +115,5 @@ pub record Selects (d : ℕ) (a : Ask) (x : Reads) : Type 0 where
   pub named : (n : ℕ) → names_incident a n ≡ names x.incidents n
   pub opened : (at : ℕ) (i : Incident) → names_opening a at i ≡ opens x.incidents at i
   pub calls : reads_calls a ≡ x.calls
-  pub turn : (room : Room) (t : Turn) → names_turn d a room t ≡ is_last_of d x.last_turn room t
-  pub stood_down : IfSome x.last_turn (λ c. a ≡ StandDown c)
+  pub turn : (room : Room) (t : Turn) → names_turn d a room t ≡ is_turn_of d x.turns room t
+  pub history : IsAskedFor x.turns a

@@ -1,5 +1,6 @@
 //! The incidents of a division that a request reads, and the numbers of those whose turns it reads.
-ghost use Rattle.std.specs.Prelude.{◌≡◌, ◌&&◌, ◌==◌, ℕ, filter, map, IfErr, IfOk};
+ghost use Rattle.std.specs.Prelude.{◌≡◌, ◌&&◌, ◌==◌, ◌||◌, ℕ, filter, map, not, IfErr, IfOk, OnOk};
+ghost use Rattle.std.specs.List.{list_any};
 ghost use Rattle.room_tables.specs.FoundRows.{Finds};
 ghost use Rattle.room_tables_schema.specs.FileConnections.{HasRoomSchema, StandsOpen};
 ghost use Rattle.room_tables_schema.specs.declared.database_faults.Fault.TheVariants.{Memory};
@@ -8,7 +9,7 @@ ghost use Rattle.room_model.specs.Room.{IsInOrder, Room};
 ghost use Rattle.room_store_cache.specs.IncidentNumbers.{contains};
 ghost use Rattle.room_store_cache.specs.RecentIncidents.{AreRecent};
 ghost use Rattle.room_store_reads.specs.Partitions.{AreKnown};
-ghost use Rattle.room_store_reads.specs.RequestReads.{is_read, reads_turns};
+ghost use Rattle.room_store_reads.specs.RequestReads.{is_merged, is_read, reads_turns};
 
 use crate::partitions::{Partition, load_parts};
 use crate::request_reads::Incidents;
@@ -19,9 +20,9 @@ use room_tables::incident_table::{active_incidents, incidents_opened};
 use room_tables_schema::database_faults::Fault;
 use room_types::numbers::{Moment, Number};
 use room_types::rows::Rows;
-use room_types::tables::Incident;
+use room_types::tables::{Call, Incident};
 use sqlite::{Alter, Connection};
-use std::alloc::Global;
+use std::alloc::{AllocError, Global};
 
 /// The incidents of a division that a request at a moment reads. Where a call is placed, those that
 /// were opened last are known from then on.
@@ -80,6 +81,50 @@ pub fn numbers_read(
         Incidents::Two(number, into) => Ok(vec![in alloc; number, into]?),
         Incidents::Nothing | Incidents::Opened(_, _) | Incidents::Near(_) => Ok(Vec::new(alloc)),
     }
+}
+
+/// The numbers of the incidents that were merged into one: of its calls, those that were given
+/// another.
+pub fn numbers_merged(
+    alloc: Global,
+    number: Number,
+    calls: &Rows<Call>,
+) -> Result<Vec<Number>, Fault>
+    ensures ok { IfOk result (λ numbers. (n : ℕ)
+        → contains n numbers.items ≡ is_merged number calls.now n) }
+    ensures memory { IfErr result (λ e. e ≡ Memory) }
+{
+    let mut numbers = Vec::new(alloc);
+    for call in calls.as_slice() {
+        add_merged(&mut numbers, number, call.given)?;
+    }
+    Ok(numbers)
+}
+
+// Adds the number that a call of an incident was given, where that is another's and not yet there.
+fn add_merged(numbers: &mut Vec<Number>, number: Number, given: Number) -> Result<(), AllocError>
+    ensures { OnOk result ((n : ℕ) → contains n numbers.new.items
+        ≡ contains n numbers.old.items || (not (number == n) && given == n)) }
+{
+    if is_known(numbers.as_slice(), number, given) {
+        return Ok(());
+    }
+    numbers.push(given)?;
+    Ok(())
+}
+
+// Whether it is the incident's own number, or there.
+fn is_known(numbers: &[Number], number: Number, given: Number) -> bool
+    ensures { result ≡ number == given || list_any (λ one. one == given) numbers.now }
+{
+    number == given || is_there(numbers, given)
+}
+
+// Whether it is one of them.
+fn is_there(numbers: &[Number], given: Number) -> bool
+    ensures { result ≡ list_any (λ one. one == given) numbers.now }
+{
+    numbers.iter().any(|one| *one == given)
 }
 
 // The numbers of incidents.

@@ -26,8 +26,7 @@ pub struct Reads {
     pub incidents: Incidents,
     /// Whether their calls are read too.
     pub calls: bool,
-    /// The vehicle whose last order's turn is read.
-    pub last_turn: Option<Callsign>,
+    pub turns: Turns,
 }
 
 /// Which reports a request reads.
@@ -38,6 +37,8 @@ pub enum Reports {
     Uncleared,
     /// The one of a vehicle and its number.
     One((Callsign, Number)),
+    /// All of a vehicle.
+    Of(Callsign),
 }
 
 /// Which incidents a request reads.
@@ -53,13 +54,23 @@ pub enum Incidents {
     Two(Number, Number),
 }
 
+/// Which turns a request reads beside those of incidents that are active or named.
+#[derive(Clone, Copy)]
+pub enum Turns {
+    Nothing,
+    /// That of a vehicle's last order.
+    Last(Callsign),
+    /// Those of the incidents that were merged into the one that is named, whose calls are read.
+    Merged(Number),
+}
+
 impl Reads {
     /// Whether nothing is read but rows of the fleet, which are known.
     pub fn is_of_fleet(&self) -> bool
-        ensures { result ≡ is_of_fleet self.now.incidents self.now.reports self.now.last_turn }
+        ensures { result ≡ is_of_fleet self.now.incidents self.now.reports self.now.turns }
     {
-        match (self.incidents, self.reports, self.last_turn) {
-            (Incidents::Nothing, Reports::Nothing, None) => true,
+        match (self.incidents, self.reports, self.turns) {
+            (Incidents::Nothing, Reports::Nothing, Turns::Nothing) => true,
             _ => false,
         }
     }
@@ -76,7 +87,7 @@ const NOTHING: Reads = Reads {
     reports: Reports::Nothing,
     incidents: Incidents::Nothing,
     calls: false,
-    last_turn: None,
+    turns: Turns::Nothing,
 };
 
 // A row of the table: what it has in some columns, and nothing in the others.
@@ -95,7 +106,9 @@ pub fn reads_of(division: DivisionNumber, ask: &Ask) -> Reads
     match *ask {
         Ask::Call(form) => row!(divisions: All, incidents: Near(form)),
         Ask::Incidents => row!(incidents: Active, calls: true),
-        Ask::Incident(number) => row!(incidents: One(number), calls: true),
+        Ask::Incident(number) => {
+            row!(incidents: One(number), calls: true, turns: Turns::Merged(number))
+        }
         Ask::Propose(number) => row!(incidents: One(number), vehicles: All, points: All),
         Ask::Mobilise(number, callsign) => {
             row!(incidents: One(number), vehicles: Key(callsign), loans: Key(callsign))
@@ -104,7 +117,7 @@ pub fn reads_of(division: DivisionNumber, ask: &Ask) -> Reads
         Ask::Merge(number, into) => row!(incidents: Two(number, into), calls: true),
         Ask::Vehicles => row!(vehicles: All, assignments: All),
         Ask::StandDown(callsign) => {
-            row!(vehicles: Key(callsign), loans: Key(callsign), last_turn: Some(callsign))
+            row!(vehicles: Key(callsign), loans: Key(callsign), turns: Turns::Last(callsign))
         }
         Ask::Standby(callsign, Some(number)) => {
             row!(vehicles: Key(callsign), loans: Key(callsign), points: Key((division, number)))
@@ -119,6 +132,7 @@ pub fn reads_of(division: DivisionNumber, ask: &Ask) -> Reads
             row!(vehicles: Key(callsign), loans: Key(callsign), offers: Key(callsign))
         }
         Ask::Decline(callsign) | Ask::Accept(callsign) => row!(offers: Key(callsign)),
+        Ask::Reports(callsign) => row!(reports: Reports::Of(callsign)),
         Ask::Queue => row!(
             incidents: Active, reports: Uncleared,
             vehicles: All, points: All, loans: All, offers: All

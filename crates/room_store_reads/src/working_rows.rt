@@ -1,5 +1,5 @@
 //! The rows of a division that a request reads: of the fleet those known, others from the tables.
-ghost use Rattle.std.specs.Prelude.{◌≡◌, ◌&&◌, ◌==◌, ℕ, Bool, None, filter, IfOk};
+ghost use Rattle.std.specs.Prelude.{◌≡◌, ◌&&◌, ◌==◌, ℕ, Bool, filter, IfOk};
 ghost use Rattle.room_tables.specs.FoundRows.{Finds};
 ghost use Rattle.room_tables_schema.specs.Outcomes.{ReadsOnly};
 ghost use Rattle.room_types.specs.declared.asks.Ask.{Ask as AskModel};
@@ -15,19 +15,22 @@ ghost use Rattle.room_store_cache.specs.IncidentNumbers.{contains};
 ghost use Rattle.room_store_reads.specs.KnownParts.{IsKnownPart};
 ghost use Rattle.room_store_reads.specs.Partitions.{AreFleetParts, AreKnown, IsOfFleet, IsWork};
 ghost use Rattle.room_store_reads.specs.Partitions.{is_turn};
-ghost use Rattle.room_store_reads.specs.RequestReads.{Selects, is_read, is_report};
+ghost use Rattle.room_store_reads.specs.RequestReads.{AreCallsFor, Selects, is_read, is_report};
+ghost use Rattle.room_store_reads.specs.RequestReads.{is_turn_of};
 
 use crate::filled_views::fill_views;
-use crate::incident_reads::load_incidents;
+use crate::incident_reads::{load_incidents, numbers_merged};
 use crate::known_parts::{KnownPart, known_part};
 use crate::partitions::load_parts;
-use crate::request_reads::{Reads, Reports};
+use crate::request_reads::{Reads, Reports, Turns};
+use crate::row_unions::add_all;
 use crate::selections::{load_one, owned_row, part_of};
 use room_place::plans::DivisionNumber;
 use room_store_cache::beside_fleet::BesideFleet;
 use room_store_cache::cache::Cache;
 use room_store_cache::cached_rows::own_rows;
 use room_store_cache::fleets::FleetRows;
+use room_tables::report_table::reports_of;
 use room_tables_schema::database_faults::Fault;
 use room_types::callsign::Callsign;
 use room_types::codes::Outcome;
@@ -177,21 +180,11 @@ fn load_work<S: Alter>(
         room.incidents → IsWork division ask at room x) }
     ensures reads { ReadsOnly S.Store conn.old conn.new result }
 {
-    // A request that reads the turn of a last order reads nothing else beside the fleet.
-    if let Some(callsign) = reads.last_turn {
-        let last = last_turn(alloc, conn, division, known.fleet.get(), &callsign)?;
-        return Ok(Work {
-            calls: Rows::new(alloc),
-            turns: last,
-            reports: Rows::new(alloc),
-        });
-    }
     let part = known_part(alloc, division, reads, incidents, &known.shown_lists)?;
     load_missing(alloc, conn, division, reads, known, part)
 }
 
-// The same, where the turn of no last order is read: the calls and turns that aren't known, and the
-// reports, are read.
+// The calls and turns that aren't known, and the reports.
 fn load_missing<S: Alter>(
     alloc: Global,
     conn: &mut Connection<S>,
@@ -204,7 +197,7 @@ fn load_missing<S: Alter>(
     requires open { StandsOpen S.Store conn.old }
     ensures rows { Finds S.Store conn.old conn.new result (λ room x. (ask : AskModel) (at : ℕ)
         (is_known : ℕ → Bool) → IsInOrder room → AreKnown known.now room
-        → Selects division ask reads.now → reads.now.last_turn ≡ None
+        → Selects division ask reads.now
         → IsKnownPart division reads.now room is_known part → IsWork division ask at room x) }
     ensures reads { ReadsOnly S.Store conn.old conn.new result }
 {
@@ -215,13 +208,44 @@ fn load_missing<S: Alter>(
     } = part;
     let of_calls = numbers_if(reads.calls, numbers.as_slice());
     let calls = load_parts::<Call, S>(alloc, conn, known, division, of_calls, calls)?;
-    let turns = load_parts::<Turn, S>(alloc, conn, known, division, numbers.as_slice(), turns)?;
+    let mut turns = load_parts::<Turn, S>(alloc, conn, known, division, numbers.as_slice(), turns)?;
+    let others = other_turns(alloc, conn, division, &reads.turns, known, &calls)?;
+    add_all(&mut turns, &others)?;
     let reports = load_reports(alloc, conn, division, &reads.reports, known)?;
     Ok(Work {
         calls,
         turns,
         reports,
     })
+}
+
+// The turns that a request reads beside those of the incidents that are active or named, where
+// these are the calls that it reads.
+fn other_turns<S: Alter>(
+    alloc: Global,
+    conn: &mut Connection<S>,
+    division: DivisionNumber,
+    turns: &Turns,
+    known: &Cache,
+    calls: &Rows<Call>,
+) -> Result<Rows<Turn>, Fault>
+    requires room { HasRoomSchema S.Store conn.old }
+    requires open { StandsOpen S.Store conn.old }
+    ensures rows { Finds S.Store conn.old conn.new result (λ room x. IsInOrder room
+        → AreKnown known.now room → AreCallsFor division turns.now room calls.now
+        → x ≡ filter (λ t. t.division == division && is_turn_of division turns.now room t)
+        room.turns) }
+    ensures reads { ReadsOnly S.Store conn.old conn.new result }
+{
+    match *turns {
+        Turns::Nothing => Ok(Rows::new(alloc)),
+        Turns::Last(callsign) => last_turn(alloc, conn, division, known.fleet.get(), &callsign),
+        Turns::Merged(number) => {
+            let numbers = numbers_merged(alloc, number, calls)?;
+            let none = Rows::new(alloc);
+            load_parts::<Turn, S>(alloc, conn, known, division, numbers.as_slice(), none)
+        }
+    }
 }
 
 // All of some numbers, or none.
@@ -231,7 +255,7 @@ fn numbers_if(is_read: bool, numbers: &[Number]) -> &[Number]
     if is_read { numbers } else { &[] }
 }
 
-// The reports that wait to be cleared, or the one that is named.
+// The reports that wait to be cleared, the one that is named, or all of a vehicle.
 fn load_reports<S: Alter>(
     alloc: Global,
     conn: &mut Connection<S>,
@@ -256,6 +280,7 @@ fn load_reports<S: Alter>(
             }
         },
         Reports::One(named) => load_one::<Report, S>(alloc, conn, division, named),
+        Reports::Of(callsign) => reports_of(alloc, conn, callsign, division),
     }
 }
 

@@ -10,8 +10,8 @@ use Rattle.room_tables_rows.specs.ReportSql.{report_row}
 use Rattle.room_tables_rows.specs.RoomsInTables.{Configuration}
 use Rattle.room_tables_rows.specs.Tables.{InsertsRow, IsHeld, IsTable, PutsRow, SelectsChosen}
 use Rattle.room_tables_rows.specs.declared.report_sql.TheConstants.{ALL_REPORTS, INSERT_REPORT}
-use Rattle.room_tables_rows.specs.declared.report_sql.TheConstants.{PUT_REPORT, REPORT_AT}
-use Rattle.room_tables_rows.specs.declared.report_sql.TheConstants.{UNCLEARED_REPORTS}
+use Rattle.room_tables_rows.specs.declared.report_sql.TheConstants.{PUT_REPORT, REPORTS_OF}
+use Rattle.room_tables_rows.specs.declared.report_sql.TheConstants.{REPORT_AT, UNCLEARED_REPORTS}
 use Rattle.room_tables_schema.proofs.ColumnValues.{cast-Int}
 use Rattle.room_tables_schema.proofs.Comparisons.{and_last, and_then, conflict_of_two}
 use Rattle.room_tables_schema.proofs.Comparisons.{equal-numbers, is_eq-then, tie-numbers, tie-texts}
@@ -113,6 +113,31 @@ uncleared_reports_are o d =
     chosen_rows reports_held UNCLEARED_REPORTS.now (outcome_code o ∷ truth false ∷ number d ∷ [])
     (λ x. outcome_number x.outcome == outcome_number o && (not x.cleared && x.division == d))
     (uncleared_reports_chooses o d)
+
+pub reports_of_means : Selects room_schema REPORTS_OF.now 19 (1 ∷ 2 ∷ 3 ∷ 4 ∷ 5 ∷ 6 ∷ 7 ∷ 8 ∷ 9 ∷ 10 ∷ 11 ∷ [])
+    (1 ∷ 2 ∷ []) (equals 1 0 ∷ equals 8 1 ∷ [])
+unfolding understood everything
+reports_of_means = record { names = _; command = refl; plain = (refl, refl); unlisted = refl }
+
+pub reports_of_chooses : (c : Callsign) (d : ℕ)
+    → SelectsChosen reports_table report_row REPORTS_OF.now (Text c ∷ number d ∷ [])
+    (λ x. is_eq (callsign_cmp c x.callsign) && x.division == d)
+reports_of_chooses c d = record {
+  terms = equals 1 0 ∷ equals 8 1 ∷ [];
+  selects = reports_of_means;
+  chooses = record {
+    test = λ r. equal Binary (column r 0) (Text c) && equal Binary (column r 7) (number d);
+    agrees = λ r. and_then refl (and_last refl);
+    same = λ x. and_then (tie-texts x.callsign c) (equal-numbers x.division d);
+  };
+}
+
+pub reports_of_are : (c : Callsign) (d : ℕ)
+    → Shows report_row REPORTS_OF.now (Text c ∷ number d ∷ [])
+    (λ found config room. found ≡ filter (λ x. is_eq (callsign_cmp c x.callsign) && x.division == d) room.reports)
+reports_of_are c d =
+    chosen_rows reports_held REPORTS_OF.now (Text c ∷ number d ∷ [])
+    (λ x. is_eq (callsign_cmp c x.callsign) && x.division == d) (reports_of_chooses c d)
 
 pub put_report_means : Upserts room_schema PUT_REPORT.now 11 reports_table (1 ∷ 2 ∷ []) 11 (row_values 11)
     (row_update 11)

@@ -69,6 +69,9 @@ pub const REPORT_AT: &str =
 pub const UNCLEARED_REPORTS: &str = "SELECT * FROM reports \
     WHERE outcome = ?1 AND cleared = ?2 AND division = ?3 ORDER BY callsign, number";
 
+pub const REPORTS_OF: &str =
+    "SELECT * FROM reports WHERE callsign = ?1 AND division = ?2 ORDER BY callsign, number";
+
 pub const INSERT_REPORT: &str =
     "INSERT INTO reports VALUES (?1, ?2, ?3, ?4, ?5, ?6, ?7, ?8, ?9, ?10, ?11)";
 

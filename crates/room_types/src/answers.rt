@@ -5,7 +5,7 @@ use crate::callsign::Callsign;
 use crate::codes::{Kind, Outcome, Status};
 use crate::needs::{Counts, Needs};
 use crate::numbers::{Class, Cover, LastNumber, Moment, Number, PointNumber};
-use crate::tables::{Assignment, Call, Incident, Loan, Offer, Turn};
+use crate::tables::{Assignment, Call, Incident, Loan, Offer, Report, Turn};
 use room_place::places::Place;
 use room_place::plans::DivisionNumber;
 use std::alloc::{AllocError, Global};
@@ -180,6 +180,7 @@ pub enum Answer {
     /// The request was carried out, and there is nothing to show.
     Done,
     Vehicles(Listed<VehicleLine>),
+    Reports(Listed<Report>),
     Queue(Listed<QueueEntry>),
     Points(Listed<PointLine>),
     Loans(Listed<Loan>),

@@ -81,6 +81,8 @@ pub enum Ask {
     Accept(Callsign),
     Recall(Callsign),
     GiveBack(Callsign),
+    /// A vehicle's reports.
+    Reports(Callsign),
     Queue,
     /// A vehicle's report of a number.
     Clear(Callsign, Number),

@@ -175,6 +175,21 @@ impl Button {
         }
     }
 
+    /// The name of the button, in small letters.
+    pub fn name(self) -> &'static str
+        ensures { result.now ≡ button_name self }
+    {
+        match self {
+            Button::Position => "position",
+            Button::Mobile => "mobile",
+            Button::Scene => "scene",
+            Button::Leave => "leave",
+            Button::Hospital => "hospital",
+            Button::Return => "return",
+            Button::Home => "home",
+        }
+    }
+
     /// The button of this name; none where no button has it.
     pub fn parse(name: &str) -> Option<Button>
         ensures { Decodes button_name name.now result }

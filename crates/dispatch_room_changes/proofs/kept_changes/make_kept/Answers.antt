@@ -28,7 +28,9 @@ returns g c printed =
       between = record { printed = _; done = _ };
       found = Ok c.in_ok-opened.opened;
       is = c.in_ok-opened.ensures printed;
-      rest = works (ChangesKept g.M.File.Write.contents g.M.File.Lasting.lasting c.in_ok-opened.opened c.args.change.now c.args.text.now)
+      rest =
+          works (ChangesKept g.M.File.Write.contents g.M.File.Lasting.lasting c.in_ok-opened.opened c.args.change.now
+          c.args.text.now)
           _ c.in_ok-conn.conn made _ c.in_ok-conn.ensures.connected c.in_ok-conn.ensures.done (
             (
               c.new-list.result,

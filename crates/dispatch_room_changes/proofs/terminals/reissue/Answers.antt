@@ -1,5 +1,5 @@
 use Rattle.std.proofs.Common.{Err, Ok, refl}
-use Rattle.dispatch_room_cli.specs.declared.exit_status.Failure.TheVariants.{Memory}
+use Rattle.dispatch_room_exit.specs.declared.exit_status.Failure.TheVariants.{Memory}
 use Rattle.dispatch_room_changes.proofs.terminals.reissue.Goals as goal
 
 pub returns-in_default : goal.returns-in_default

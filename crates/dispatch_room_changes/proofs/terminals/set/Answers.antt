@@ -1,5 +1,5 @@
 use Rattle.std.proofs.Common.{Err, Ok, length, refl, rules, ◌≡◌}
-use Rattle.dispatch_room_cli.specs.declared.exit_status.Failure.TheVariants.{Memory}
+use Rattle.dispatch_room_exit.specs.declared.exit_status.Failure.TheVariants.{Memory}
 use Rattle.dispatch_room_disk.proofs.WorkLemmas.{stops}
 use Rattle.dispatch_room_changes.proofs.terminals.set.Goals as goal
 

@@ -1,5 +1,5 @@
 use Rattle.std.proofs.Common.{Err, Ok, inl, inr, refl}
-use Rattle.dispatch_room_cli.specs.declared.exit_status.Failure.TheVariants.{Input}
+use Rattle.dispatch_room_exit.specs.declared.exit_status.Failure.TheVariants.{Input}
 use Rattle.dispatch_room_commands.proofs.board.board.Goals as goal
 
 pub returns : goal.returns

@@ -12,7 +12,8 @@ returns-in_err-conn g c =
 pub returns : goal.returns
 returns g c =
     let said = c.check_in-looked.ensures in
-    works Examines _ c.in_ok-conn.conn (Ok c.check_in-looked.result) _ c.in_ok-conn.ensures.connected c.in_ok-conn.ensures.done
+    works Examines _ c.in_ok-conn.conn (Ok c.check_in-looked.result) _ c.in_ok-conn.ensures.connected
+    c.in_ok-conn.ensures.done
     (said.checked, said.printed, said.nothing)
     c.close.ensures.closes
     c.close.ensures.done

@@ -11,7 +11,8 @@ returns-in_err-conn g c =
 
 pub returns : goal.returns
 returns g c =
-    works Digests _ c.in_ok-conn.conn c.digest_in-printed.result _ c.in_ok-conn.ensures.connected c.in_ok-conn.ensures.done
+    works Digests _ c.in_ok-conn.conn c.digest_in-printed.result _ c.in_ok-conn.ensures.connected
+    c.in_ok-conn.ensures.done
     c.digest_in-printed.ensures
     c.close.ensures.closes
     c.close.ensures.done

@@ -19,7 +19,8 @@ returns-in_err-close g c =
     let moved = c.migrate_in-moved.ensures in
     stops _ _ _ _ c.from_residual-in_err-close.result _ c.from_residual-in_err-close.ensures.1
     (λ fault is. rw is
-    (works Moves _ c.in_ok-conn.conn c.migrate_in-moved.result _ c.in_ok-conn.ensures.connected c.in_ok-conn.ensures.done
+    (works Moves _ c.in_ok-conn.conn c.migrate_in-moved.result _ c.in_ok-conn.ensures.connected
+    c.in_ok-conn.ensures.done
     (either_way c.migrate_in-moved.result _ _ moved.migrated moved.fault, refl)
     c.in_err-close.ensures.closes
     c.in_err-close.ensures.done))

@@ -1,6 +1,6 @@
 use Rattle.std.proofs.Common.{Err, List, Ok, Option, Result, map, refl, ℕ, ◌≡◌}
 use Rattle.std.specs.Prelude.{MatchResult}
-use Rattle.dispatch_room_cli.specs.declared.exit_status.Failure.{Failure}
+use Rattle.dispatch_room_exit.specs.declared.exit_status.Failure.{Failure}
 use Rattle.dispatch_room_disk.specs.FileSteps.{Does, FollowsFor, StopsFor}
 use Rattle.dispatch_room_disk.specs.ReplacingSteps.{Step as Call}
 use Rattle.dispatch_room_commands.proofs.restore.replace.Goals as goal

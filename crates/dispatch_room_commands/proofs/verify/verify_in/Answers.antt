@@ -1,5 +1,5 @@
 use Rattle.std.proofs.Common.{Err, None, Ok, Some, inl, inr, refl}
-use Rattle.dispatch_room_cli.specs.declared.exit_status.Failure.TheVariants.{Memory}
+use Rattle.dispatch_room_exit.specs.declared.exit_status.Failure.TheVariants.{Memory}
 use Rattle.dispatch_room_commands.proofs.verify.verify_in.Goals as goal
 
 pub returns-in_default : goal.returns-in_default
@@ -26,6 +26,6 @@ pub returns : goal.returns
 returns g c = record {
   between = _;
   found = Err _;
-  is = (inr (c.in-Err.flaw, c.failure_of.ensures, λ text known. c.in-Err.ensures text known), refl);
+  is = (inr (c.in-Err.defect, c.failure_of.ensures, λ text known. c.in-Err.ensures text known), refl);
   rest = (refl, refl);
 }

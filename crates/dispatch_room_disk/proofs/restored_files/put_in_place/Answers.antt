@@ -2,7 +2,7 @@ use Rattle.std.proofs.Common.{[], ◌∷◌, ◌++◌, ◌≡◌, Err, IfErr, Li
 use Rattle.std.proofs.Common.{refl, subst, suc, sym, zero, ℕ}
 use Rattle.std.specs.List.{AllByRecursion}
 use Rattle.std.specs.Result.{IfOk, IsErrAnd}
-use Rattle.dispatch_room_cli.specs.declared.exit_status.Failure.{Failure}
+use Rattle.dispatch_room_exit.specs.declared.exit_status.Failure.{Failure}
 use Rattle.dispatch_room_disk.specs.DiskFaults.{IsFileFault}
 use Rattle.dispatch_room_disk.specs.FileSteps.{Follows, FollowsFor}
 use Rattle.dispatch_room_disk.specs.ReplacingSteps.{IsFaultOf, Step, distinguished, held, moving}

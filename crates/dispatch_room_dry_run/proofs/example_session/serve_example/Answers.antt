@@ -1,6 +1,6 @@
 use Rattle.std.proofs.Common.{false, refl}
 use Rattle.sqlite.proofs.Callers.{memory_is_clean}
-use Rattle.room_http.specs.declared.settings.Setting.{Setting}
+use Rattle.room_http.specs.declared.settings.HttpSettings.{HttpSettings}
 use Rattle.room_model.specs.Rooms.{machine}
 use Rattle.dispatch_room_dry_run.specs.Example.{IsExample}
 use Rattle.dispatch_room_dry_run.proofs.ExampleLemmas.{zone_is_read}
@@ -15,7 +15,7 @@ pub returns-clause-dialogue : goal.returns-clause-dialogue
 returns-clause-dialogue g c =
     let zone =
     rw (c.unwrap-zone.ensures, c.zone.ensures, c.plan.ensures, c.in_ok-store.ensures.zone) at c.read.ensures.zone in
-    let setting : Setting = record { zone = c.unwrap-zone.result; history = false } in (
+    let setting : HttpSettings = record { zone = c.unwrap-zone.result; history = false } in (
       setting,
       record { zone = zone; history = refl },
       (

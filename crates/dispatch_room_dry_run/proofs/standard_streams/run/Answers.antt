@@ -1,5 +1,5 @@
 use Rattle.std.proofs.Common.{ap, ◌∙◌}
-use Rattle.dispatch_room_cli.specs.ExitStatus.{status_after}
+use Rattle.dispatch_room_exit.specs.ExitStatus.{status_after}
 use Rattle.dispatch_room_dry_run.proofs.standard_streams.run.Goals as goal
 
 pub returns : goal.returns

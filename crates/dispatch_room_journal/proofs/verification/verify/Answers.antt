@@ -66,7 +66,7 @@ returns-in-Err g c = λ text known.
     let taken = c.entries.invariant.taken in
     let follows = taken.1.follows text known in
     let read = c.in-Err.ensures.read in
-    rw c.flaw.ensures (
+    rw c.defect.ensures (
       taken.0,
       follows.0,
       (taken.1.are_entries, follows.2),
@@ -79,7 +79,7 @@ pub returns : goal.returns
 returns g c = λ text known.
     let taken = c.entries.invariant.taken in
     let follows = taken.1.follows text known in
-    rw c.flaw-2.ensures (
+    rw c.defect-2.ensures (
       taken.0,
       follows.0,
       (taken.1.are_entries, follows.2),

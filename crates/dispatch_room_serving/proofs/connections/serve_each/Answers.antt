@@ -16,14 +16,14 @@ returns-in-Err-clause-served g c =
     let before = c.loop-connection.invariant.served in
     let next = c.serve_next.ensures.attended in
     let within : length before.calls
-    < c.args.part.now.terms.connections = omega (arith, before.counted, c.loop-connection-test.true) in
+    < c.args.part.now.limits.connections = omega (arith, before.counted, c.loop-connection-test.true) in
     record {
       calls = before.calls ++ next.call ∷ [];
       attended =
           attended_more g.S.Store c.args.handler.now.setting _ _ before.calls (next.call ∷ []) _ _ _ before.attended
           next.attended;
       ends =
-          ends_after before.calls next.call c.args.part.now.terms.renews c.args.part.now.terms.connections
+          ends_after before.calls next.call c.args.part.now.limits.renews c.args.part.now.limits.connections
           c.in-Err.fault before.go_on
           within (sym c.in-Err.is ∙ next.ends);
       kept = kept_ending g.S.Store c.args.handler.now.setting _ _ next.call _ _ _ _ before next.attended;
@@ -41,7 +41,7 @@ loop-connection-preserved g c =
 pub returns-clause-served : goal.returns-clause-served
 returns-clause-served g c =
     let before = c.loop-connection.invariant.served in
-    let all : length before.calls ≡ c.args.part.now.terms.connections =
+    let all : length before.calls ≡ c.args.part.now.limits.connections =
     omega (arith, before.counted, c.loop-connection-test.false, c.loop-connection.auto._connection-end) in
     record {
       calls = before.calls;

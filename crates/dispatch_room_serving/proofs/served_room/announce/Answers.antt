@@ -1,10 +1,10 @@
 use Rattle.std.proofs.Common.{◌≡◌, ◌∙◌, ap, inl, inr, refl, sym, if◌then◌else◌, ℕ, List, [], Bool}
 use Rattle.std.proofs.Common.{true, false, ◌⊎◌}
 use Rattle.hex.specs.Hex.{encode_lower}
-use Rattle.dispatch_room_cli.specs.ExitStatus.{refused}
-use Rattle.dispatch_room_cli.specs.declared.exit_status.Failure.{Failure}
-use Rattle.dispatch_room_cli.specs.declared.exit_status.Failure.TheVariants.{Journal, Memory}
-use Rattle.dispatch_room_cli.specs.declared.exit_status.Failure.TheVariants.{Storage}
+use Rattle.dispatch_room_exit.specs.ExitStatus.{refused}
+use Rattle.dispatch_room_exit.specs.declared.exit_status.Failure.{Failure}
+use Rattle.dispatch_room_exit.specs.declared.exit_status.Failure.TheVariants.{Journal, Memory}
+use Rattle.dispatch_room_exit.specs.declared.exit_status.Failure.TheVariants.{Storage}
 use Rattle.room_http_messages.proofs.StreamLemmas.{Appends-none}
 use Rattle.room_model.specs.Rooms.{IsUnavailable}
 use Rattle.room_model.specs.declared.digests.Head.{Head}

@@ -1,8 +1,8 @@
 use Rattle.std.proofs.Common.{◌≡◌, append-nil, inl, inr, refl, sym, ℕ, List, [], Bool, Option}
 use Rattle.std.proofs.Common.{Result, Ok, Err}
 use Rattle.std.specs.Prelude.{MatchResult, true}
-use Rattle.dispatch_room_cli.specs.declared.exit_status.Failure.{Failure}
-use Rattle.dispatch_room_cli.specs.declared.exit_status.Failure.TheVariants.{Journal}
+use Rattle.dispatch_room_exit.specs.declared.exit_status.Failure.{Failure}
+use Rattle.dispatch_room_exit.specs.declared.exit_status.Failure.TheVariants.{Journal}
 use Rattle.room_store.specs.declared.store.Store.{Store}
 use Rattle.sqlite_trees.specs.declared.store.Store.{Ghosts}
 use Rattle.room_model.specs.declared.digests.Head.{Head}

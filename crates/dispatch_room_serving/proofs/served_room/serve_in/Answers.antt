@@ -1,5 +1,5 @@
 use Rattle.std.proofs.Common.{inl, inr, refl}
-use Rattle.dispatch_room_cli.specs.declared.exit_status.Failure.TheVariants.{Memory}
+use Rattle.dispatch_room_exit.specs.declared.exit_status.Failure.TheVariants.{Memory}
 use Rattle.dispatch_room_serving.proofs.ConnectionLaws.{looks_same}
 use Rattle.dispatch_room_serving.proofs.served_room.serve_in.Goals as goal
 
@@ -7,7 +7,7 @@ pub returns-in-Ok-clause-served : goal.returns-in-Ok-clause-served
 returns-in-Ok-clause-served g c = record {
   first = c.in_ok-room.room;
   last = c.begin_and_serve-served.new.room;
-  setting = record { zone = c.in_ok-room.zone; history = c.args.part.now.terms.history };
+  setting = record { zone = c.in_ok-room.zone; history = c.args.part.now.limits.history };
   opens = c.in_ok-room.ensures.room;
   is_set = record { zone = c.in_ok-room.ensures.zone; history = refl };
   attended = rw c.in-Ok.ensures.setting at c.begin_and_serve-served.ensures.attends;
@@ -19,7 +19,7 @@ pub returns-in-Err-clause-served : goal.returns-in-Err-clause-served
 returns-in-Err-clause-served g c = record {
   first = c.in_ok-room.room;
   last = c.in_ok-room.room;
-  setting = record { zone = c.in_ok-room.zone; history = c.args.part.now.terms.history };
+  setting = record { zone = c.in_ok-room.zone; history = c.args.part.now.limits.history };
   opens = c.in_ok-room.ensures.room;
   is_set = record { zone = c.in_ok-room.ensures.zone; history = refl };
   attended = inl (record {

@@ -1,5 +1,5 @@
 use Rattle.std.proofs.Common.{None, Some, drop, refl, sym, ◌+◌, ◌∙◌}
-use Rattle.dispatch_room_cli.specs.declared.exit_status.Done.TheVariants.{InPart}
+use Rattle.dispatch_room_exit.specs.declared.exit_status.Done.TheVariants.{InPart}
 use Rattle.dispatch_room_tasks.proofs.FateLemmas.{bad_next, done_less, done_same, good_next}
 use Rattle.dispatch_room_tasks.proofs.FateLemmas.{printing_more}
 use Rattle.dispatch_room_tasks.specs.RowOutcomes.{outcomes}

@@ -20,11 +20,11 @@ returns-clause-served g c =
           λ once.
           c.standing-left.ensures.unlooked
           (c.serve_in.ensures.none
-          (c.place_of.ensures.unlooked (ap (λ it. it.renews) c.terms_of-terms.ensures ∙ once)));
+          (c.place_of.ensures.unlooked (ap (λ it. it.renews) c.limits_of-limits.ensures ∙ once)));
       ended = rw (← c.is_some-has_journal.ensures) c.end_part-done.ensures.ended;
       cut = λ is. let cut = c.end_part-done.ensures.cut is in (cut.0, ap (λ it. it.journal) cut.1);
       is =
-          rw (kept, c.observer_of-log_and_journal.ensures.fresh, c.terms_of-terms.ensures)
+          rw (kept, c.observer_of-log_and_journal.ensures.fresh, c.limits_of-limits.ensures)
           at c.in_ok-done.ensures.served;
     }
 

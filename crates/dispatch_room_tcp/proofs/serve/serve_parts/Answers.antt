@@ -17,7 +17,7 @@ loop-part-init g c = record {
 
 pub loop-part-preserved : goal.loop-part-preserved
 loop-part-preserved g c =
-    let renews = sym (ap (λ terms. terms.renews) c.terms_of.ensures) ∙ not_false _ c.if-not-terms_of.false in
+    let renews = sym (ap (λ limits. limits.renews) c.limits_of.ensures) ∙ not_false _ c.if-not-limits_of.false in
     let well = sym c.is_err.ensures.value ∙ c.if-is_err.false in
     let listed = c.in-Ok.ensures.listed ∙ c.loop-part.invariant.listed in
     record {
@@ -45,7 +45,7 @@ pub next_list-requires : goal.next_list-requires
 next_list-requires g c = record {
   journal =
       second_true _ _
-      (sym (ap (λ terms. terms.renews) c.terms_of.ensures) ∙ not_false _ c.if-not-terms_of.false);
+      (sym (ap (λ limits. limits.renews) c.limits_of.ensures) ∙ not_false _ c.if-not-limits_of.false);
 }
 
 pub returns-in_err-first-clause-fault : goal.returns-in_err-first-clause-fault
@@ -59,10 +59,10 @@ returns-in_err-first-clause-fault g c =
       unopened = rw is c.in_err-first.ensures.fault;
     })
 
-pub returns-then-not-terms_of-clause-served : goal.returns-then-not-terms_of-clause-served
-returns-then-not-terms_of-clause-served g c =
+pub returns-then-not-limits_of-clause-served : goal.returns-then-not-limits_of-clause-served
+returns-then-not-limits_of-clause-served g c =
     inl (ends_once _ _ _ _ _
-    (sym (ap (λ terms. terms.renews) c.terms_of.ensures) ∙ not_true _ c.if-not-terms_of.true)
+    (sym (ap (λ limits. limits.renews) c.limits_of.ensures) ∙ not_true _ c.if-not-limits_of.true)
     refl c.in_ok-first.ensures.served)
 
 pub returns-then-is_err-clause-served : goal.returns-then-is_err-clause-served
@@ -72,7 +72,7 @@ returns-then-is_err-clause-served g c =
 
 pub returns-in-Err-clause-served : goal.returns-in-Err-clause-served
 returns-in-Err-clause-served g c =
-    let renews = sym (ap (λ terms. terms.renews) c.terms_of.ensures) ∙ not_false _ c.if-not-terms_of.false in
+    let renews = sym (ap (λ limits. limits.renews) c.limits_of.ensures) ∙ not_false _ c.if-not-limits_of.false in
     let well = sym c.is_err.ensures.value ∙ c.if-is_err.false in
     inr (record {
       renews = renews;
@@ -87,7 +87,7 @@ returns-in-Err-clause-served g c =
 
 pub returns-in_err-next-clause-fault : goal.returns-in_err-next-clause-fault
 returns-in_err-next-clause-fault g c =
-    let renews = sym (ap (λ terms. terms.renews) c.terms_of.ensures) ∙ not_false _ c.if-not-terms_of.false in
+    let renews = sym (ap (λ limits. limits.renews) c.limits_of.ensures) ∙ not_false _ c.if-not-limits_of.false in
     let well = sym c.is_err.ensures.value ∙ c.if-is_err.false in
     let next = next_before _ _ _ _ _ renews well
     (c.loop-part.invariant.served _ refl c.in_ok-first.ensures.served).0 in

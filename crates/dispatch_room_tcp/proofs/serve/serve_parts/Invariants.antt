@@ -1,7 +1,7 @@
 use Rattle.std.specs.Prelude.{◌≡◌, ◌≤◌, ◌+◌, false, is_some, length}
 use Rattle.dispatch_room_serving.specs.Callers.{Prints}
 use Rattle.dispatch_room_tcp.specs.Hosts.{Effect}
-use Rattle.dispatch_room_tcp.specs.ServedFiles.{manner_of, terms_of, watch_of}
+use Rattle.dispatch_room_tcp.specs.ServedFiles.{manner_of, limits_of, watch_of}
 use Rattle.dispatch_room_tcp.specs.ServedParts.{EndsPart, IsPart, Standing}
 use Rattle.dispatch_room_tcp.proofs.serve.serve_parts.Given as goal
 
@@ -14,7 +14,7 @@ invariant-loop-part g l = record {
       → first.done ≡ g.M.Machine.done l.initial.machine
       → IsPart g.S.Store
       (watch_of g.M.File.Write.contents (is_some l.fn.list) l.run.service)
-      (terms_of l.run.service) l.fn.list first.interval
+      (limits_of l.run.service) l.fn.list first.interval
       (record {
         conn = l.initial.conn;
         heard = g.P.Callers.heard l.initial.callers;

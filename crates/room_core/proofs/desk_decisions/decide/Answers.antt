@@ -57,6 +57,9 @@ returns-in-Recall c = rw c.in-Recall.is (exact _ _ (c.recall.ensures c.args.plan
 pub returns-in-GiveBack : goal.returns-in-GiveBack
 returns-in-GiveBack c = rw c.in-GiveBack.is (exact _ _ (c.give_back.ensures c.args.plan.now.areas))
 
+pub returns-in-Reports : goal.returns-in-Reports
+returns-in-Reports c = rw c.in-Reports.is (listed _ _ (c.reports.ensures c.args.plan.now.areas))
+
 pub returns-in-Queue : goal.returns-in-Queue
 returns-in-Queue c = rw c.in-Queue.is (listed _ _ (c.queue.ensures.decides c.args.plan.now.areas))
 

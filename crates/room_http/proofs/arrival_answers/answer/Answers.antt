@@ -3,7 +3,7 @@ use Rattle.std.proofs.Common.{false, Ok, Err}
 use Rattle.room_http.specs.ReplyMessages.{fixed_bytes}
 use Rattle.room_http.specs.Arrivals.{is_head_only}
 use Rattle.room_http.specs.KeptMessages.{Acts, Unmoved}
-use Rattle.room_http.specs.declared.session.ServeEnd.TheVariants.{Closed, Unkept, WriteFault}
+use Rattle.room_http.specs.declared.session.ServeEnd.TheVariants.{Closed, JournalFailed, WriteFault}
 use Rattle.room_http_messages.proofs.StreamLemmas.{Appends-none}
 use Rattle.room_http.proofs.KeptLemmas.{kept_all, kept_cut, kept_none, kept_part}
 use Rattle.room_http.proofs.KeptLemmas.{kept_unserved_tail, nothing_done}
@@ -277,5 +277,5 @@ returns-in-Err-clause-promised g c same o shown =
 
 pub returns-in-Err-answering-clause-promised : goal.returns-in-Err-answering-clause-promised
 returns-in-Err-answering-clause-promised g c same o shown =
-    one_promised _ _ _ _ _ false false _ _ _ (Unit {0}) _ _ _ (g.met.M.Room.fits _) _ o _ (Err Unkept)
+    one_promised _ _ _ _ _ false false _ _ _ (Unit {0}) _ _ _ (g.met.M.Room.fits _) _ o _ (Err JournalFailed)
     (returns-in-Err-answering-clause-answers g c o shown).1 same

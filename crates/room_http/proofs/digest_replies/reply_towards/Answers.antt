@@ -7,7 +7,7 @@ use Rattle.room_model.specs.Room.{Room}
 use Rattle.room_http_messages.specs.declared.messages.Message.{Message as Given}
 use Rattle.room_http_messages.specs.Layouts.{Shows}
 use Rattle.room_http_messages.specs.Messages.{WholeMessage}
-use Rattle.room_http.specs.declared.settings.Setting.{Setting}
+use Rattle.room_http.specs.declared.settings.HttpSettings.{HttpSettings}
 use Rattle.room_model.specs.Digests.{DigitsOf, IsHeadOf, digits_of}
 use Rattle.room_model.specs.Rooms.{Step}
 use Rattle.room_model.specs.declared.digests.Head.{Head}
@@ -23,7 +23,7 @@ use Rattle.room_http.specs.DigestReplies.{LeadsToAnother}
 use Rattle.room_http.proofs.digest_replies.reply_towards.Goals as goal
 
 -- what is refused in the place of a message leaves the room at its digest
-stays_elsewhere : (step : Step) (setting : Setting) (digits_of : DigitsOf)
+stays_elsewhere : (step : Step) (setting : HttpSettings) (digits_of : DigitsOf)
     (terminals : List Terminal) (room : Room) (arrived : Arrived) (r : Refusal) (without : _)
     (at : ℕ) (head : Head) (o : Arrival) → arrived ≡ Refused r without → IsShown arrived o
     → (¬ (IsHeadOf digits_of head terminals room))
@@ -34,7 +34,7 @@ stays_elsewhere step setting digits_of terminals room arrived r without at head 
     let same = rw is at shown in (Err r, ap Err same.0, elsewhere)
 
 -- what a message asks for was found
-finds : (setting : Setting) (terminals : List Terminal) (arrived : Arrived) (given : Given) (bytes : _)
+finds : (setting : HttpSettings) (terminals : List Terminal) (arrived : Arrived) (given : Given) (bytes : _)
     (at : ℕ) (found : Result Event Refusal) (o : Arrival) → arrived ≡ Message given bytes
     → IsShown arrived o
     → ((m : WholeMessage) → Shows given m → AsksFor setting terminals m at found)

@@ -4,7 +4,7 @@ use Rattle.room_types.specs.declared.fleet.Terminal.{Terminal}
 use Rattle.room_types.specs.declared.refusal_statuses.Refusal.{Refusal}
 use Rattle.room_model.specs.Room.{Room}
 use Rattle.room_http.specs.ReplyMessages.{IsReply}
-use Rattle.room_http.specs.declared.settings.Setting.{Setting}
+use Rattle.room_http.specs.declared.settings.HttpSettings.{HttpSettings}
 use Rattle.room_model.specs.Rooms.{Step}
 use Rattle.room_http.specs.declared.arrivals.Arrived.{Arrived}
 use Rattle.room_http.specs.declared.arrivals.Arrived.TheVariants.{Refused}
@@ -34,7 +34,7 @@ returns-in-Err-clause-keeps g c =
     }
 
 -- what is refused in the place of a message is reported, and the room stays
-stated : (step : Step) (setting : Setting) (terminals : List Terminal) (room : Room) (arrived : Arrived)
+stated : (step : Step) (setting : HttpSettings) (terminals : List Terminal) (room : Room) (arrived : Arrived)
     (r : Refusal) (without head_only closing : Bool) (at : ℕ) (bytes : List ℕ) (o : Arrival)
     → arrived ≡ Refused r without → IsShown arrived o
     → head_only ≡ is_head_only o → closing ≡ is_closing o

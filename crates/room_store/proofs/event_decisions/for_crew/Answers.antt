@@ -42,7 +42,8 @@ returns-in-Last-clause-decided g c clean =
     (sym (ap (λ (r : FleetRows). r.vehicles) c.get.ensures ∙ fleet.rows.vehicles))
     ∙ sym (c.copied.ensures ∙ c.get-2.ensures) ∙ c.in-Some.is in
     let here = found_here k c.in-Some.vehicle room there in
-    rw here.0 at (answered config room h formed fleet here.1 (rw c.in-Last.is tt))) (c.by_rows-in-Last.ensures.decided clean)
+    rw here.0 at (answered config room h formed fleet here.1 (rw c.in-Last.is tt)))
+    (c.by_rows-in-Last.ensures.decided clean)
 
 pub returns-in-Report-clause-reads : goal.returns-in-Report-clause-reads
 returns-in-Report-clause-reads g c = c.for_report.ensures.reads

@@ -14,7 +14,8 @@ by_rows-requires-clause-open g c clean = (c.in-Ok-None.ensures.reads.ok clean).0
 
 pub returns-in-Ok-Some-clause-decided : goal.returns-in-Ok-Some-clause-decided
 unfolding kept_report
-returns-in-Ok-Some-clause-decided g c clean = says c.decide_repeated_report.result _ (λ config room h formed fleet there.
+returns-in-Ok-Some-clause-decided g c clean =
+    says c.decide_repeated_report.result _ (λ config room h formed fleet there.
     sym
     (rw (c.requires.report, c.in-Ok-Some.ensures.row clean config room h formed there, c.in-Ok-Some.field-0-is)
     (sym c.decide_repeated_report.ensures)))

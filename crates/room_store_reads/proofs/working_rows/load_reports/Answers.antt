@@ -5,7 +5,7 @@ use Rattle.room_types.specs.Codes.{is_normal}
 use Rattle.room_types.specs.Keys.{owns_report}
 use Rattle.room_tables_schema.proofs.ReadLaws.{begins, ends_any, succeeds}
 use Rattle.room_store_cache.proofs.Filters.{filter_as, filter_owned}
-use Rattle.room_store_reads.proofs.ReadFilters.{filter_never, filter_none, numbered_is}
+use Rattle.room_store_reads.proofs.ReadFilters.{and_swapped, filter_never, filter_none, numbered_is}
 use Rattle.room_store_reads.proofs.Selected.{exceptional}
 use Rattle.room_store_reads.proofs.working_rows.load_reports.Goals as goal
 
@@ -44,3 +44,10 @@ returns-in-One-clause-rows g c clean =
     ∙ filter_as _ _ room.reports
     (λ y. ap (λ b. owns_report c.args.division y && b) (numbered_is n.0 y.callsign n.1 y.number))))
     (c.load_one.ensures.rows clean)
+
+pub returns-in-Of-clause-rows : goal.returns-in-Of-clause-rows
+returns-in-Of-clause-rows g c clean =
+    IfOk-weaker c.reports_of.result _ _ (λ x found config room h in_order are.
+    rw c.in-Of.is (found config room h
+    ∙ filter_as _ _ room.reports (λ y. and_swapped _ (owns_report c.args.division y))))
+    (c.reports_of.ensures.rows clean)

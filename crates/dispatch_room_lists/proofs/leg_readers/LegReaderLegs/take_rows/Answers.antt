@@ -15,12 +15,12 @@ returns-clause-taken g c =
     c.take_rows-taken.result
     (λ no. let is = taken.unread no in (
       is.0,
-      (ap (λ list. list.reader) is.1, ap (λ list. list.reel) is.1),
+      (ap (λ list. list.reader) is.1, ap (λ list. list.cursor) is.1),
       ap (λ rows. rows.items) is.2,
     ))
     (λ some. let is = taken.given some in (
       is.0,
-      (ap (λ list. list.reader) is.1, ap (λ list. list.reel) is.1),
+      (ap (λ list. list.reader) is.1, ap (λ list. list.cursor) is.1),
       ap (λ rows. rows.items) is.2,
     ))
     (λ ended none. (taken.taken ended none).1))

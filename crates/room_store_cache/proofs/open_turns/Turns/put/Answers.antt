@@ -39,7 +39,8 @@ returns-else-is_err c =
     where_ok c.put.result (sym c.is_err.ensures.value ∙ c.if-is_err.false) c.put.ensures.ok in
     let is_open = none_if t.ended (sym c.is_some.ensures ∙ c.if-is_some.false) in
     let all : (before after : Room) → HasMet t before after → AreTurnsOf known before
-    → AreTurnsOf c.put.new.self after = λ before after met are. rw made (met_kept t before after met known are is_open) in
+    → AreTurnsOf c.put.new.self after =
+    λ before after met are. rw made (met_kept t before after met known are is_open) in
     record {
       read = λ room are here. all room room (met_read t room here) are;
       made = λ room are. all room _ (met_made t room) are;

@@ -1,0 +1,2 @@
+-- how a program ends
+pub mod ExitStatus

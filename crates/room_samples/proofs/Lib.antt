@@ -1,0 +1,16 @@
+mod SampledCalls
+mod SampledCrossings1
+mod SampledCrossings2
+mod SampledCrossings3
+mod SampledIncidents
+mod SampledLoans
+mod SampledMobilising
+mod SampledOffers
+mod SampledPoints
+mod SampledProposals
+mod SampledQueues1
+mod SampledQueues2
+mod SampledReports1
+mod SampledReports2
+mod SampledShares
+mod SampledVehicles
