@@ -24,9 +24,12 @@ import etcd  # noqa: E402
 import kept_list  # noqa: E402
 import members  # noqa: E402
 import three  # noqa: E402
+import upkeep  # noqa: E402
 
 COPY_EVERY = 3000
 DEADLINE = 60.0  # seconds that a companion has for an answer, so that none is given up in a test
+# Seconds that a command of it may take, which waits for all machines to make a change.
+DOES_WITHIN = upkeep.CHANGES_WITHIN + PATIENCE
 SHIFTED = pathlib.Path(__file__).resolve().parent / 'shifted.py'
 three.STARTS_WITHIN = PATIENCE
 
@@ -48,6 +51,12 @@ def children_of(pid):
         return [int(it) for task in tasks.iterdir()
                 for it in (task / 'children').read_text().split()]
     return []
+
+
+def plays(pid):
+    with contextlib.suppress(OSError):
+        return b'replay' in pathlib.Path(f'/proc/{pid}/cmdline').read_bytes().split(b'\0')
+    return False
 
 
 def end_all(pid):
@@ -137,6 +146,12 @@ class Machines:
                 raise AssertionError(f'not within {PATIENCE} s: {what}\n{self.said()[-6000:]}')
             time.sleep(0.05)
 
+    def state(self, number):
+        """What a companion reports of itself, once it does."""
+        found = {}
+        self.until(lambda: found.update(self.health(number)) or found, f'{number} reports')
+        return found
+
     def health(self, number):
         """What a companion reports of itself, or nothing."""
         with contextlib.suppress(OSError, ValueError, http.client.HTTPException):
@@ -169,16 +184,18 @@ class Machines:
     def companion_does(self, number, *words):
         """Runs a command of the companion; gives its status and what it reported."""
         done = subprocess.run([sys.executable, THREE / 'companion.py', *words, '--etcd',
-                               self.etcd(number)], capture_output=True, text=True, timeout=PATIENCE)
+                               self.etcd(number)], capture_output=True, text=True,
+                              timeout=DOES_WITHIN)
         return done.returncode, done.stdout + done.stderr
 
     def said(self):
         return (self.folder / 'output').read_text(errors='replace')
 
     def process_ids(self, kind, number):
-        """Of a room they are those of its companion's children."""
+        """Of a room they are those of its companion's children that play, and not of the commands
+        by which copies are looked at or changed: those fail where they are killed."""
         pid = self.processes['companion' if kind == 'room' else kind, number].pid
-        return children_of(pid) if kind == 'room' else [pid]
+        return [it for it in children_of(pid) if plays(it)] if kind == 'room' else [pid]
 
     def signal(self, kind, number, what):
         self.signal_all(self.process_ids(kind, number), what)
@@ -193,10 +210,11 @@ class Machines:
         if kind != 'room':
             self.processes[kind, number].wait()
 
-    def bring_back(self, kind, number):
-        """Starts what was killed. A companion starts its room by itself."""
-        if kind != 'room':
-            self.start(kind, number)
+    def end(self, kind, number):
+        """Kills a process with all that it started, none of which writes any more then."""
+        process = self.processes[kind, number]
+        end_all(process.pid)
+        process.wait()
 
     def stop_companions(self, *numbers):
         """Ends the companions well; gives their statuses."""
@@ -216,6 +234,10 @@ class Machines:
             it.wait()
         self.held.close()
         self.output.close()
+
+
+# What a companion is given for a witness: so many revisions it has time to see what is dropped.
+SEEN = ['--revisions', '10000']
 
 
 class Witness(threading.Thread):

@@ -1,5 +1,6 @@
 """A `systemctl` for scripts that stop and start a room: it asks the test that runs them, which does
 so and answers."""
+import contextlib
 import os
 import threading
 
@@ -22,8 +23,10 @@ class Systemctl:
         threading.Thread(target=self.answer, daemon=True).start()
 
     def answer(self):
-        """Does what is asked, until the test ends."""
-        while True:
-            word = (self.folder / 'asked').read_text().strip()
-            self.asked.append(word)
-            (self.folder / 'answered').write_text('done\n' if self.acts[word]() else 'failed\n')
+        """Does what is asked, until the test ends and its folder is gone."""
+        with contextlib.suppress(FileNotFoundError):
+            while True:
+                word = (self.folder / 'asked').read_text().strip()
+                self.asked.append(word)
+                done = self.acts[word]()
+                (self.folder / 'answered').write_text('done\n' if done else 'failed\n')

@@ -186,6 +186,32 @@ class Wire(TestCase):
                    requests('deskone1', *PATHS[:2], '/incidents/2147483647',
                             '/incidents/2147483647/propose', *PATHS[2:]))
 
+    def asked_by(self, host, *words):
+        """How a board ends that asks with these words at a name of a peer on this machine, and what
+        it says to the peer."""
+        with peer(lambda stream: stream.sendall(b''.join(EMPTY))) as (address, heard):
+            port = address.rpartition(':')[2]
+            status, _, err = run('board', f'{host}:{port}', *words, *UNHURRIED)
+        return status, err, b''.join(heard)
+
+    def test_token_file(self):
+        """Its first line is the token, whatever stands below it, and with or without a line end."""
+        file = self.folder / 'token'
+        for text in [b'deskone1\n', b'deskone1', b'deskone1\ndesktwo2\n', b'deskone1\n\xff']:
+            file.write_bytes(text)
+            self.check(f'a file with {text}', self.asked_by('127.0.0.1', '--token', file),
+                       (0, '', requests('deskone1', *PATHS)))
+
+    def test_another_machine(self):
+        """No token goes to an address but one of this machine, unless it may: 0.0.0.0 stands for
+        the addresses of all, and Linux takes it for 127.0.0.1."""
+        asked = requests('deskone1', *PATHS)
+        for host, words, ended in [('localhost', [], (0, '', asked)),
+                                   ('0.0.0.0', [], (1, 'refused: input\n', b'')),
+                                   ('0.0.0.0', ['--plain'], (0, '', asked)),
+                                   ('127.0.0.1', ['--plain'], (0, '', asked))]:
+            self.check(f'{host} {words}', self.asked_by(host, 'deskone1', *words), ended)
+
     def test_widest_rows(self):
         queue = ('{"queue":[{"number":2147483647,"rank":2,"since":0,"vehicle":"AMB12345"},'
                  '{"number":0,"rank":6,"since":1795588739,"vehicle":"A1"}]}')
@@ -375,6 +401,8 @@ Turns: 3
         self.check('a token that is none', board('127.0.0.1:1', token='a b'),
                    (1, '', 'refused: input\n'))
         for words in [['board'], ['board', 'a'], ['board', 'a', 'b', 'c'],
+                      ['board', 'a', 'b', '--token', 'c'], ['board', 'a', '--token'],
+                      ['board', 'a', '--token', 'b', '--token', 'c'],
                       ['board', 'a', 'b', '--patience', '0'],
                       ['board', 'a', 'b', '--patience', '3601'],
                       ['board', 'a', 'b', '--incident', '0'],

@@ -1,14 +1,13 @@
 """The script that changes a room that is served, as its unit serves it: a vehicle, a token and a
-plan come to it, kept in its list where there is one; the room is served again whatever fails; and
-the program's own work, for which it stands still, is less than a second of a small room."""
-# needs: python3 sqlite3
+plan come to it, kept in its list where there is one; and the room is served again whatever fails,
+with a word for how long it stood still."""
+# needs: python3
 # builds: dispatch_room
 import os
 import re
-import resource
 import subprocess
 
-from room import FLEET, PLAN, PROGRAM, TOP, TestCase, ask, fleet_of, message, run, sql
+from room import FLEET, PLAN, PROGRAM, TOP, TestCase, ask, fleet_of, message, run
 from services import Systemctl
 from test_unit import Machine
 
@@ -88,17 +87,3 @@ class Changes(TestCase):
         for words in [(), ('serve',), ('init', 'plan.csv')]:
             self.check(f'{words}', self.change(*words), (2, '', USAGE))
         self.check('nothing is stopped', self.systemctl.asked, [])
-
-    def test_stop(self):
-        """What a stop costs, in seconds of a processor: on an idle machine it takes as long."""
-        before = resource.getrusage(resource.RUSAGE_CHILDREN)
-        self.assertEqual(self.change('import', self.fleet('D1,1,1,TQ303804,crewofd1'))[0], 0)
-        after = resource.getrusage(resource.RUSAGE_CHILDREN)
-        spent = after.ru_utime + after.ru_stime - before.ru_utime - before.ru_stime
-        self.check('less than a second', spent < 1, True)
-        self.check('the vehicles', sql(self.copy(), 'SELECT count(*) FROM vehicles'), '6\n')
-
-    def copy(self):
-        """The room's file once it is served no more."""
-        self.machine.stop()
-        return self.room

@@ -78,6 +78,16 @@ ADDRESSES = [
     ('0.0.0.0:8080', 'other machines reach it'), ('[::]:80', 'other machines reach it'),
 ]
 
+# What may be the address of another machine, so that no board asks there: addresses by RFC 1122
+# and RFC 4291 that are not of loopback, names but `localhost` of RFC 6761, and no addresses.
+ELSEWHERE = [
+    '192.0.2.1:8080', '126.255.255.255:8080', '128.0.0.1:8080', '0.0.0.0:8080', '[::]:8080',
+    '[2001:db8::1]:8080', '[::ffff:127.0.0.1]:8080', 'room.example:8080', 'localhost.example:8080',
+    '127.0.0.1.example:8080', 'localhost:80@room.example:8080', 'localhost:room.example:8080',
+    'LOCALHOST:8080', 'localhost', 'localhost:', 'localhost:http', 'localhost:65536', '127.0.0.1',
+    '127.0.0.1:65536', '',
+]
+
 
 def os_words(code):
     """What the system says of an error, as the program reports it."""
@@ -177,7 +187,7 @@ class Rooms(ErrorCase):
 
     def test_a_folder(self):
         self.check_error('init', ['init', self.folder, PLAN], 3, 'storage',
-                         f'{self.folder} is no regular file, or has a second hard link')
+                         f'{self.folder} is no regular file')
         self.check_error('check', ['check', self.folder], 3, 'storage',
                          f'{self.folder}: {os_words(errno.EISDIR)}')
 
@@ -195,7 +205,28 @@ class Rooms(ErrorCase):
     def test_two_names(self):
         os.link(self.room, self.other)
         self.check_error('two names', ['check', self.room], 3, 'storage',
-                         f'{self.room} is no regular file, or has a second hard link')
+                         f'{self.room} has a second hard link')
+
+    def test_log(self):
+        """A room's log is at fault as the room's file would be, and a link may not stand there."""
+        log = self.folder / 'room.db-wal'
+        log.touch()
+        os.link(log, self.other)
+        self.check_error('two names', ['check', self.room], 3, 'storage',
+                         f'{log} has a second hard link')
+        log.unlink()
+        log.symlink_to(self.other)
+        self.check_error('a link', ['check', self.room], 3, 'storage',
+                         f'{log} is no regular file')
+
+    def test_a_link(self):
+        """What is wrong is said of the name that was given, and of the log beside the file."""
+        link = self.folder / 'link'
+        link.symlink_to(self.room)
+        self.check('a link', run('check', link, '--explain')[2], '')
+        os.link(self.room, self.other)
+        self.check_error('two names', ['check', link], 3, 'storage',
+                         f'{link} has a second hard link')
 
     def test_no_database(self):
         for text, status, named, cause in [
@@ -207,8 +238,19 @@ class Rooms(ErrorCase):
             self.check_error(f'check of {text[:11]!r}', ['check', self.other], status, named, cause)
 
     def test_a_room_already(self):
-        self.check_error('init', ['init', self.room, PLAN], 1, 'refused: file',
-                         f'{self.room} is a room already, or another database')
+        words = ['init', self.room, PLAN]
+        self.check_error('init', words, 1, 'refused: file', f'{self.room} is a room already')
+        drop_indexes(self.room)
+        sql(self.room, 'UPDATE meta SET version = 1; DROP TABLE offers')
+        self.check_error('of version 1', words, 1, 'refused: file',
+                         f'{self.room} is a room already')
+
+    def test_another_database(self):
+        for text in ['CREATE TABLE vehicles (callsign TEXT)', 'CREATE VIEW meta AS SELECT 1']:
+            self.other.unlink(missing_ok=True)
+            sql(self.other, text)
+            self.check_error(text, ['init', self.other, PLAN], 1, 'refused: file',
+                             f'{self.other} is another database')
 
     def test_no_room(self):
         sql(self.other, 'CREATE TABLE vehicles (callsign TEXT)')
@@ -229,6 +271,17 @@ class Rooms(ErrorCase):
                          'refused: division', f'no division 9 in the plan of {self.room}')
         self.check_error('a day', ['times', self.room, 1, '29.3.2026'], 1, 'refused: day',
                          '"29.3.2026" is no day from 1970-01-01 to 2099-12-31')
+
+    def test_renew(self):
+        """Of a room in which nothing has happened yet no day is two days old."""
+        for day, cause in [
+                ('29.3.2026', '"29.3.2026" is no day from 1970-01-01 to 2099-12-31'),
+                ('2026-02-29', '"2026-02-29" is no day from 1970-01-01 to 2099-12-31'),
+                ('2026-03-29', '2026-03-29 begins less than two days before the last moment of '
+                               f'{self.room}')]:
+            self.check_error(day, ['renew', self.room, self.other, '--since', day], 1,
+                             'refused: day', cause)
+        self.assertFalse(self.other.exists())
 
 
 class Journals(ErrorCase):
@@ -288,6 +341,19 @@ class Network(ErrorCase):
     def test_no_token(self):
         self.check_error('board', ['board', '127.0.0.1:9', 'short'], 1, 'refused: input',
                          'TOKEN is not 8 to 32 of A-Z, a-z and 0-9')
+        file = self.folder / 'token'
+        words = ['board', '127.0.0.1:9', '--token', file]
+        self.check_error('no file', words, 1, 'refused: input', f'{file}: {os_words(errno.ENOENT)}')
+        for text in [b'', b'\ndeskone1\n', b'short\n', b'deskone1\r\n', b' deskone1', b'\xff' * 8]:
+            file.write_bytes(text)
+            self.check_error(f'a file with {text}', words, 1, 'refused: input',
+                             f'{file}:1: token is not 8 to 32 of A-Z, a-z and 0-9')
+
+    def test_elsewhere(self):
+        for address in ELSEWHERE:
+            self.check_error(f'board of {address!r}', ['board', address, 'deskone1'], 1,
+                             'refused: input', f"{address} may be another machine's, to which the "
+                             'token would go in plain HTTP: --plain lets it')
 
     def test_addresses(self):
         for address, cause in ADDRESSES:

@@ -91,16 +91,40 @@ class Packages(TestCase):
         for word in ('one', 'three', 'apt-get install etcd nginx'):
             self.check(word, word in said.getvalue(), True)
 
+    def said(self, provide, ran):
+        """The status of a run, and what it said below its first line about packages, if any."""
+        with mock.patch.multiple(self.run, words=lambda: (False, self.modules), provide=provide,
+                                 run=ran), contextlib.redirect_stdout(io.StringIO()) as said:
+            status = self.run.main()
+        return status, [it for it in said.getvalue().splitlines() if 'left out' not in it]
+
     def test_sum(self):
         """The others are run, and those that were left out count as failed."""
-        with mock.patch.multiple(self.run, words=lambda: (False, self.modules),
-                                 provide=lambda package: package == 'python3',
-                                 run=lambda name: (f'{name} was run\n', 5, 0)), (
-                contextlib.redirect_stdout(io.StringIO())) as said:
-            status = self.run.main()
-        self.check('status', status, 1)
-        self.check('what was run', said.getvalue().splitlines()[1:],
-                   ['-- two', 'two was run', '5 passed, 2 failed'])
+        found = self.said(lambda package: package == 'python3', lambda name: ('5 passed\n', 5, 0))
+        self.check('what was said', found, (1, [
+            '-- two', '5 passed', 'tests: not passed: one three', '5 passed, 2 failed']))
+
+    def test_words(self):
+        """Of a test that passed only the sum is shown, of another one all that it said."""
+        found = self.said(lambda _: True, lambda name: (f'{name}:\nits sum\n', 5, name == 'two'))
+        self.check('what was said', found, (1, [
+            '-- one', 'its sum', '-- two', 'two:', 'its sum', '-- three', 'its sum',
+            'tests: not passed: two', '15 passed, 1 failed']))
+
+    def test_once_more(self):
+        """A test of programs that have clocks of their own gets a second run, and no other one."""
+        for fails, wanted in [(1, (1, ['tests: not passed: two', '15 passed, 1 failed'])),
+                              (2, (1, ['tests: not passed: one two', '15 passed, 2 failed']))]:
+            left = dict.fromkeys(('one', 'two'), fails)
+
+            def ran(name):
+                left[name] = left.get(name, 0) - 1
+                return 'its sum\n', 5, int(left[name] >= 0)
+            with mock.patch.object(self.run, 'TIMED', {'nginx'}):
+                status, said = self.said(lambda _: True, ran)
+            self.check(f'{fails}: the end', (status, said[-2:]), wanted)
+            self.check(f'{fails}: who is run again', [it for it in said if 'once more' in it],
+                       ['-- one, once more by itself'])
 
     def test_none(self):
         with mock.patch.object(self.run, 'provide', lambda _: True):

@@ -42,6 +42,7 @@ TYPED = [
     ('board --color ne', ['board', '--color', 'never']),
     ('init room.db pl', ['init', 'room.db', 'plan.csv']),
     ('serve --journal pl', ['serve', '--journal', 'plan.csv']),
+    ('board --token pl', ['board', '--token', 'plan.csv']),
     ('serve --idle pl', ['serve', '--idle', 'pl']),
     ('board pl', ['board', 'pl']),
     ('check --color al', ['check', '--color', 'al']),

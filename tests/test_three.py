@@ -11,6 +11,7 @@ import socket
 
 from disturbed import FOLDERS, Faults, small
 from listed import ThreeTestCase
+from machines import SEEN
 from many_terminals import asked_while
 from namespaces import Apart, Relay
 from preloaded import EVERY
@@ -22,7 +23,6 @@ PAUSE = 0.25  # seconds of a terminal between an answer and its next request
 COPY_EVERY = 1000
 LOST = 20  # answers of each member
 SIZES = {'room': 64 << 20, 'work': 64 << 20, 'etcd': 400 << 20}  # bytes of file systems
-SEEN = ['--revisions', '10000']  # revisions, until which a witness has seen what is dropped
 
 
 class Disturbed(ThreeTestCase):
@@ -80,9 +80,12 @@ class Forgotten(ThreeTestCase):
             self.machines.words[number] = ['--etcd', it.address, *SEEN]
         self.machines.start_all()
         witness = self.witness()
-        asking = asked_while(lambda: self.machines.until(
-            lambda: min(it.forgotten for it in before) > LOST, 'answers are lost'),
-            self.addresses()[:machines], pause, self.chance)
+
+        def until_lost():
+            for count in range(LOST):
+                self.machines.until(lambda: min(it.forgotten for it in before) > count,
+                                    f'more than {count} answers are lost')
+        asking = asked_while(until_lost, self.addresses()[:machines], pause, self.chance)
         self.check('all were answered', sum(it.unanswered for it in asking), 0)
         self.end(asking, witness)
 

@@ -4,6 +4,7 @@ while terminals are answered, and taken by companions that are not started again
 # builds: dispatch_room
 import http.client
 import os
+import re
 import shutil
 import ssl
 import subprocess
@@ -15,7 +16,7 @@ from machines import PATIENCE, THREE, Machines
 
 import certificates
 
-LASTS = 150  # seconds that certificates are good for, in which three machines have to start
+LASTS = 70  # seconds that certificates are good for
 # In place of openssl: what it makes of an authority ends so many seconds from now.
 SHORT = """#!/bin/sh
 for word in "$@"; do
@@ -53,7 +54,7 @@ class Certificates(ThreeTestCase):
                         self.machines.machines[number].certificates, dirs_exist_ok=True)
 
     def days(self, number):
-        return self.machines.health(number).get('days', {})
+        return self.machines.state(number)['days']
 
     def days_in_metrics(self, number, name):
         connection = http.client.HTTPConnection(*self.machines.address(number), timeout=PATIENCE)
@@ -80,22 +81,27 @@ class Certificates(ThreeTestCase):
         self.check('of one authority', done.returncode, 0)
 
     def test_renewed(self):
-        self.prepare(path=self.short)
-        until = time.time() + LASTS
+        """(A busy machine may look at them, or have other ones, only after their end, -1 days.)"""
+        self.prepare()
         for it in self.machines.machines:
             self.bring(it)
         self.machines.start_all()
         self.check('a call', self.answered(1, call(1))[1], 200)
+        self.prepare('--renew', path=self.short)
+        until = time.time() + LASTS
         for it in self.machines.machines:
-            self.check_comes('days', lambda: [self.days(it).get(name) for name in (
-                'authority', 'companion', 'member')], [certificates.AUTHORITY_DAYS - 1, 0, 0])
-            self.check('in metrics', self.days_in_metrics(it, 'member'), [0])
-        self.machines.until(lambda: 'the certificate member ends in 0 days' in self.machines.said(),
-                            'it is reported')
+            self.bring(it)
+        for it in self.machines.machines:
+            self.machines.until(lambda: {self.days(it).get(name) for name in (
+                'companion', 'member')} <= {0, -1}, 'they end')
+            self.check('the authority', self.days(it)['authority'], certificates.AUTHORITY_DAYS - 1)
+            self.check('in metrics', self.days_in_metrics(it, 'member')[0] in (0, -1), True)
+        self.machines.until(lambda: re.search('the certificate member ends in (0|-1) days',
+                                              self.machines.said()), 'it is reported')
         self.prepare('--renew')
         for it in self.machines.machines:
             self.bring(it)
-            self.machines.until(lambda: self.days(it).get('companion', 0) > 3000, 'it is taken')
+            self.machines.until(lambda: self.days(it)['companion'] > 3000, 'it is taken')
             self.check('a call', self.answered(it, call(1 + it))[1], 200)
         time.sleep(max(until + 1 - time.time(), 0))
         for it in self.machines.machines:

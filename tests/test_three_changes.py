@@ -9,6 +9,7 @@ import time
 
 import listed
 from listed import ThreeTestCase, replayed
+from machines import SEEN
 from many_terminals import PLAN, asked_while
 from room import PROGRAM, dump, message, run, sql
 
@@ -111,6 +112,7 @@ class Changes(ThreeTestCase):
 
     def test_four(self):
         """Each of the four while forty terminals ask: no machine stops serving for it."""
+        self.machines.words = dict.fromkeys(self.machines.machines, SEEN)
         self.machines.start_all()
         witness = self.witness()
         asking = asked_while(self.make_four, self.addresses(), 0.25, self.chance)
@@ -126,18 +128,21 @@ class Changes(ThreeTestCase):
         self.check('old incidents', sql(newest, 'SELECT count(*) FROM incidents WHERE division = '
                                                 '1 AND number <= 30'), '0\n')
 
-    def slow(self):
-        """A program that takes its time to open a room, as with many incidents."""
-        program = self.folder / 'slow'
-        program.write_text(f'#!/bin/sh\nsleep {OPENS}\nexec {PROGRAM} "$@"\n')
+    def start_slow(self):
+        """Starts all machines with a program that takes its time to open a room, as with many
+        incidents, and longer where it is held."""
+        program, self.holding = self.folder / 'slow', self.folder / 'holding'
+        program.write_text(f'#!/bin/sh\nsleep {OPENS}\nwhile [ -e {self.holding} ]; do sleep 0.1; '
+                           f'done\nexec {PROGRAM} "$@"\n')
         program.chmod(0o700)
-        return program
-
-    def test_slow(self):
-        """A room that takes long to open is not away for it: the change is made beside."""
-        program, reasons, stopped = self.slow(), set(), threading.Event()
         self.machines.programs = dict.fromkeys(self.machines.machines, program)
         self.machines.start_all()
+
+    def test_slow(self):
+        """A room that takes long to open is not away for it: the change is made beside. (How long
+        it is behind as the copy takes its place, test_three_simulated measures.)"""
+        self.start_slow()
+        reasons, stopped = set(), threading.Event()
 
         def look():
             while not stopped.wait(0.05):
@@ -145,11 +150,13 @@ class Changes(ThreeTestCase):
                                for it in self.machines.machines)
         looking = threading.Thread(target=look)
         looking.start()
-        self.make_four()
-        stopped.set()
-        looking.join()
-        self.check('no room was opened meanwhile', reasons & {
-            'the room is opening', 'the room is behind', 'it is not serving'}, set())
+        try:
+            self.make_four()
+        finally:
+            stopped.set()
+            looking.join()
+        self.check('no room was opened meanwhile',
+                   reasons & {'the room is opening', 'it is not serving'}, set())
         self.check('it has the vehicle', self.answered(2, message('crewofnew1', 'GET /order'))[1],
                    200)
 
@@ -221,9 +228,7 @@ class Changes(ThreeTestCase):
     def test_stops(self):
         """Machines that stop while a change is made: a companion that is killed, one that ends, and
         a room."""
-        program = self.slow()
-        self.machines.programs = dict.fromkeys((1, 2, 3), program)
-        self.machines.start_all()
+        self.start_slow()
         for stop in (lambda: self.machines.kill('companion', 2),
                      lambda: self.machines.stop_companions(3),
                      lambda: self.machines.kill('room', 2)):
@@ -242,13 +247,14 @@ class Changes(ThreeTestCase):
 
     def test_otherwise(self):
         """Where somebody is answered otherwise meanwhile, the change is begun again."""
-        self.machines.programs = dict.fromkeys((1, 2, 3), self.slow())
-        self.machines.start_all()
+        self.start_slow()
+        self.holding.touch()  # until somebody was answered
         fleet = self.file(FLEET_HEAD, 'NEW1,1,1,TQ300804,crewofnew1')
         making, found = self.begin('import', fleet)
         report = {'button': 'home', 'number': 1, 'order': 0, 'place': 'TQ300800'}
         sent = message('crewofnew1', 'POST /report', json.dumps(report))
         self.check('before it is there', self.answered(2, sent)[1], 403)
+        self.holding.unlink()
         making.join()
         self.check('it is made', found, [(0, 'NEW1 added\n')])
         self.check('by a second one', 'somebody was answered otherwise' in self.machines.said(),

@@ -50,16 +50,19 @@ class Quota(ThreeTestCase):
         """Records go once each machine has them in copies, and their space is given back."""
         self.machines.copy_every = 100
         self.machines.start_all()
-        asked_while(lambda: self.machines.until(
-            lambda: self.machines.health(1).get('record', 0) > 1000, 'a thousand records'),
-            self.addresses(), 0, self.chance)
+
+        def until_a_thousand():
+            for count in range(0, 1001, 100):
+                self.machines.until(lambda: self.machines.health(1).get('record', 0) > count,
+                                    f'more than {count} records')
+        asked_while(until_a_thousand, self.addresses(), 0, self.chance)
         last = self.level()
 
         def are_gone():
             self.answered(1, AT_END)  # where a copy could not be reported, the next ones are
             return self.machines.list().ends()[0] >= last - 300
         self.machines.until(are_gone, 'records go')
-        self.check('little is used', self.used() < QUOTA // 2, True)
+        self.machines.until(lambda: 0 < self.used() < QUOTA // 2, 'little is used')
 
     def test_warned(self):
         """At half of the quota it is warned, and near its end no more is taken, so that space is

@@ -260,7 +260,7 @@ class Lists(ThreeTestCase):
     def start_from_oldest_copy(self):
         """Starts all companions from the oldest copy that machine 1 has."""
         for it in self.machines.machines:
-            self.machines.kill('companion', it)
+            self.machines.end('companion', it)
         folders = [it.folder / 'room' for it in self.machines.machines.values()]
         *newer, oldest = copies.copies_in(folders[0])
         for it in newer:

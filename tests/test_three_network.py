@@ -15,7 +15,7 @@ import sys
 import time
 import unittest
 
-from machines import PATIENCE, THREE
+from machines import PATIENCE, THREE, end_all
 from many_terminals import FLEET, PLAN
 from namespaces import ADDRESSES, NUMBERS, Namespaces, done
 from room import PROGRAM, TestCase, dump, run
@@ -184,7 +184,9 @@ class Network(TestCase):
     def replace(self):
         """Machine 3 has a new disk, and comes back by what the README and its command say."""
         for it in 'companion', 'member':
-            self.processes.pop((3, it)).kill()
+            process = self.processes.pop((3, it))
+            end_all(process.pid)
+            process.wait()
         state = self.folder / 'state3'
         shutil.rmtree(state)
         found = []

@@ -47,7 +47,7 @@ class Repair(ThreeTestCase):
     def end_all(self, number):
         """Ends, of a machine, all that runs."""
         for it in 'companion', 'member':
-            self.machines.kill(it, number)
+            self.machines.end(it, number)
 
     def test_destroyed(self):
         """A machine that is there is not replaced; one that lost its disk is, with a copy."""

@@ -83,10 +83,10 @@ class Rooms(ThreeTestCase):
         self.flip(next((self.machines.machines[2].folder / 'room' / 'work').glob('run.*/room.db')))
         self.check('more calls', self.calls(30), [200] * 30)
         self.until_odd(2)
-        copied = self.machines.health(2)['copy']
+        copied = self.machines.state(2)['copy']
         self.check('many more calls', self.calls(60), [200] * 60)
         self.machines.until(lambda: self.machines.health(2).get('behind') == 0, 'it plays on')
-        self.check('it makes no copy', self.machines.health(2)['copy'], copied)
+        self.check('it makes no copy', self.machines.state(2)['copy'], copied)
         self.start_again(2, self.machines.stop_companions)
         self.copied(150)
         self.level()

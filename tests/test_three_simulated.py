@@ -244,11 +244,14 @@ class Run:
                 for _, outcome, _ in kept.values(f'{upkeep.OUTCOMES}{number:012}'):
                     return outcome.decode().strip()
 
-    async def play(self):
+    async def start(self):
         self.three.begin(self.state)
         for it in NUMBERS:
             self.three.start(it)
         await self.all_serve()
+
+    async def play(self):
+        await self.start()
         working = [asyncio.create_task(it.work()) for it in self.terminals]
         disturbing = [asyncio.create_task(it()) for it in (self.disturb_on, self.change_on)]
         await asyncio.sleep(LASTS)
@@ -288,43 +291,54 @@ class Silence(TestCase):
             await asyncio.sleep(0.02)
         return waited
 
-    async def killed(self, run):
-        """All of machine 1 is killed, whose member leads."""
-        run.three.begin(run.state)
-        for it in NUMBERS:
-            run.three.start(it)
-        await run.all_serve()
+    async def waited(self, run, meanwhile):
+        """For how long a terminal waited at most, while something is done."""
+        await run.start()
         asking = asyncio.create_task(self.ask_on(run))
+        await meanwhile(run)
+        run.is_over = True
+        waited = await asking
+        for it in list(run.three.running):
+            await run.three.stop(it)
+        return waited
+
+    async def kill(self, run):
+        """Kills all of machine 1, whose member leads."""
         await asyncio.sleep(3)
         run.three.etcd.lose_leader(1)
         await run.three.kill(1)
         await asyncio.sleep(5)
-        run.is_over = True
-        waited = await asking
-        for it in 2, 3:
-            await run.three.stop(it)
-        return waited
 
-    def test_leader_killed(self):
-        """Where the machine is killed whose member leads, terminals wait for a second at most."""
+    async def change(self, run):
+        """Has the room changed, whose copies take up to three seconds to open."""
+        for text in b'terminals --from\nterminal2 changed002\n', b'renew --since 2026-01-01\n':
+            self.check('it is made', await run.change(text), 'changed')
+
+    def all_waited(self, meanwhile):
         waited = []
         for seed in range(20):
             folder = self.folder / str(seed)
             folder.mkdir()
             run = Run(folder, seed)
-            waited.append(played(run, self.killed(run)))
+            waited.append(played(run, self.waited(run, meanwhile)))
+        return waited
+
+    def test_leader_killed(self):
+        """Where the machine is killed whose member leads, terminals wait for a second at most."""
+        waited = self.all_waited(self.kill)
         self.check('a second at most', [it for it in waited if it > 1], [])
         self.check('and some time', min(waited) > 0.2, True)
+
+    def test_changed(self):
+        """Nor does a terminal wait while a change is made, or takes the room's place."""
+        self.check('a second at most', [it for it in self.all_waited(self.change) if it > 1], [])
 
 
 class Revoked(TestCase):
     async def revoked(self, run):
         """The token of a terminal that goes on asking is taken away; gives what became of each
         try."""
-        run.three.begin(run.state)
-        for it in NUMBERS:
-            run.three.start(it)
-        await run.all_serve()
+        await run.start()
         asking = asyncio.create_task(Silence.ask_on(self, run))
         outcomes = []
         while len(outcomes) < companion.TRIES and outcomes[-1:] != ['changed']:

@@ -2,6 +2,7 @@
 once there is space they have copies again."""
 # needs: etcd-server sqlite3 mount
 # builds: dispatch_room
+import contextlib
 import shutil
 import unittest.mock
 
@@ -42,33 +43,50 @@ class Space(ThreeTestCase):
             found.append(self.answered(1 + self.serial % 3, call(self.serial))[1])
         return found
 
-    def health(self, number, name):
-        return self.machines.health(number).get(name, '')
+    def state(self, number, name):
+        return self.machines.state(number)[name]
 
     def folder_of(self, number):
         return self.machines.machines[number].folder / 'room'
+
+    def is_copying(self, number):
+        return any(self.folder_of(number).glob('part.*'))
+
+    def fill(self, number):
+        """Leaves no byte free in a machine's folder for copies."""
+        with ((self.folder_of(number) / 'filler').open('ab', 0) as filler,
+              contextlib.suppress(OSError)):
+            while True:
+                filler.write(bytes(1 << 16))
+
+    def until_uncopied(self, number):
+        """Waits for a copy that fails, in a folder that is filled again, as one that was being made
+        may have given something back."""
+        def is_uncopied():
+            self.fill(number)
+            self.calls(1)
+            return 'No space left' in self.state(number, 'uncopied')
+        self.machines.until(is_uncopied, 'it is reported')
 
     def check_full(self, numbers):
         self.machines.start_all()
         self.check('calls', self.calls(12), [200] * 12)
         for it in numbers:
-            free = shutil.disk_usage(self.folder_of(it)).free
-            (self.folder_of(it) / 'filler').write_bytes(bytes(free))
+            self.fill(it)
         self.check('calls while it is full', self.calls(24), [200] * 24)
         for it in numbers:
-            self.machines.until(lambda: 'No space left' in self.health(it, 'uncopied'), 'reported')
-            self.machines.until(lambda: self.health(it, 'free')['copies'] < SIZE // 8, 'no space')
+            self.until_uncopied(it)
+            self.machines.until(lambda: self.state(it, 'free')['copies'] < SIZE // 8, 'no space')
         self.check('calls behind a copy that failed', self.calls(24), [200] * 24)
         for it in numbers:
-            self.machines.until(lambda: not any(self.folder_of(it).glob('part.*')),
-                                'what it left is deleted')
+            self.machines.until(lambda: not self.is_copying(it), 'what it left is deleted')
         self.check('on standard error', 'no copy of record' in self.machines.said(), True)
         for it in numbers:
             (self.folder_of(it) / 'filler').unlink()
         last = self.level()
         for it in numbers:
-            self.machines.until(lambda: self.health(it, 'uncopied') == '', 'there is a copy again')
-            self.check('of the records since', self.health(it, 'copy') > 12, True)
+            self.machines.until(lambda: self.state(it, 'uncopied') == '', 'there is a copy again')
+            self.check('of the records since', self.state(it, 'copy') > 12, True)
         self.check('all end well', self.machines.stop_companions(), [0, 0, 0])
         newest = [self.newest(it) for it in self.machines.machines]
         self.check('with all records', [it.number for it in newest], [last] * 3)
@@ -80,12 +98,13 @@ class Space(ThreeTestCase):
         self.check('calls', self.calls(12), [200] * 12)
         words = ['terminals', '--new', 'crew:V6', '--program', PROGRAM, '--folder',
                  self.folder_of(1)]
-        filler = self.folder_of(2) / 'filler'
-        filler.write_bytes(bytes(shutil.disk_usage(self.folder_of(2)).free))
+        self.level()
+        self.machines.until(lambda: not self.is_copying(2), 'no copy is being made')
+        self.fill(2)
         self.check('it is not made', self.machines.companion_does(1, *words),
                    (1, 'companion: refused: not every machine could make it\n'))
         self.check('calls behind it', self.calls(12), [200] * 12)
-        filler.unlink()
+        (self.folder_of(2) / 'filler').unlink()
         self.check('it is made', self.machines.companion_does(1, *words)[0], 0)
         self.check('all end well', self.machines.stop_companions(), [0, 0, 0])
 

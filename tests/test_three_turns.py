@@ -9,7 +9,7 @@ import time
 import types
 import unittest.mock
 
-from room import TOP, TestCase
+from room import PATIENCE, TOP, TestCase
 
 sys.path.insert(0, str(TOP / 'examples' / 'three'))
 import channel  # noqa: E402
@@ -21,8 +21,9 @@ import turns  # noqa: E402
 WHOLE = b'HTTP/1.1 200 OK\r\nContent-Length: 2\r\n\r\n{}'
 CHUNKS = (b'HTTP/1.1 200 OK\r\nTransfer-Encoding: chunked\r\n\r\n'
           b'3\r\n{"a\r\n5\r\n": 1}\r\n0\r\n\r\n')
+OPENS_WITHIN = 3.0  # seconds
 OPENS_LATE = """import sys, time
-time.sleep(6)
+time.sleep(%d)
 print('answer 200 2\\nok\\n', end='', flush=True)
 sys.stdin.read()
 """
@@ -108,7 +109,7 @@ class Wires(TestCase):
             server = await asyncio.start_server(serve, '127.0.0.1', 0)
             by = channel.Channel(etcd.Reach(*server.sockets[0].getsockname()), 2)
             printed = []
-            for _ in range(2):
+            for by.within in 2, PATIENCE:
                 try:
                     printed.append(await by.ask('/', {}))
                 except etcd.Unreached as reason:
@@ -117,15 +118,16 @@ class Wires(TestCase):
             by.close()
             server.close()
             return printed
-        self.check('what it returns', asyncio.run(ask()), ['etcd: timed out', {}])
+        with unittest.mock.patch.object(channel, 'CONNECTS_WITHIN', PATIENCE):
+            self.check('what it returns', asyncio.run(ask()), ['etcd: timed out', {}])
 
 
 class Opening(TestCase):
-    def opened(self, worked):
-        """What comes of a program that answers after six seconds, where three are allowed and it
-        has worked so much at each look."""
+    def opened(self, seconds, worked):
+        """What comes of a program that answers after so many seconds, where three are allowed and
+        it has worked so much at each look."""
         program, taken = self.folder / 'program', []
-        program.write_text(f'#!{sys.executable}\n{OPENS_LATE}')
+        program.write_text(f'#!{sys.executable}\n{OPENS_LATE % seconds}')
         program.chmod(0o700)
         copy = copies.Copy(self.folder / 'copy.db', 0, '', '', 'x')
         copy.file.write_bytes(b'')
@@ -143,14 +145,14 @@ class Opening(TestCase):
             finally:
                 await room.drop()
             return 'it answered'
-        with (unittest.mock.patch.object(played_room, 'OPENS_WITHIN', 3.0),
+        with (unittest.mock.patch.object(played_room, 'OPENS_WITHIN', OPENS_WITHIN),
               unittest.mock.patch.object(played_room, 'worked', worked)):
             return asyncio.run(play())
 
     def test_as_long_as_it_goes_on(self):
         count = itertools.count(1)
-        self.check('it works', self.opened(lambda _: next(count)), 'it answered')
-        self.check('it hangs', self.opened(lambda _: 7), 'the room is silent')
+        self.check('it works', self.opened(2 * OPENS_WITHIN, lambda _: next(count)), 'it answered')
+        self.check('it hangs', self.opened(PATIENCE, lambda _: 7), 'the room is silent')
 
     def test_worked(self):
         """Ticks of the processor are counted."""

@@ -93,7 +93,7 @@ class Watched(ThreeTestCase):
         self.machines.start('companion', 2)
         self.machines.until(lambda: self.machines.health(2).get('refuses', '').startswith('etcd: '),
                             'it says why it does not serve')
-        self.check('its number', self.machines.health(2)['machine'], 2)
+        self.check('its number', self.machines.state(2)['machine'], 2)
         self.check('to Prometheus', 'dispatch_room_serving 0' in self.metrics(2), True)
         self.check('to a terminal', exchange(self.machines.address(2), message(
             'deskof01', 'GET /queue'), PATIENCE), (None, 503, '{"error":"NoAnswer","kept":"no"}'))
@@ -109,7 +109,7 @@ class Watched(ThreeTestCase):
         reported = promtool('check', 'metrics', given=text)[1].splitlines()
         self.check('Prometheus reads it, and wants help',
                    [it for it in reported if not it.endswith(' no help text')], [])
-        health = self.machines.health(1)
+        health = self.machines.state(1)
         for name in 'free', 'others', 'etcd':
             self.check(f'{name} is in health', bool(health[name]), True)
         found = set(re.findall(r'^(dispatch_room_\w+)', text, re.M))

@@ -3,3 +3,4 @@ pub mod DatabaseNameLemmas
 pub mod BuilderLemmas
 pub mod MatchLemmas
 pub mod ExplainLemmas
+pub mod AddressLemmas

@@ -29,6 +29,8 @@ use Rattle.dispatch_room_cli.specs.declared.tasks.Task.TheVariants.{Serve, SetTe
 use Rattle.dispatch_room_cli.specs.declared.tasks.Task.TheVariants.{Times, Verify}
 use Rattle.dispatch_room_cli.specs.declared.tasks.Terminals.{Terminals as Wanted}
 use Rattle.dispatch_room_cli.specs.declared.tasks.Terminals.TheVariants as wanted
+use Rattle.dispatch_room_cli.specs.declared.tasks.TokenPlace.{TokenPlace}
+use Rattle.dispatch_room_cli.specs.declared.tasks.TokenPlace.TheVariants.{File, Word}
 
 -- the text writes this number of so many bits, in decimal digits, behind a plus or without one
 pub record Writes (bits : ℕ) (text : List ℕ) (number : ℕ) : Type 0 where
@@ -125,10 +127,16 @@ module _ (given : List Row) where
   IsColor color.Auto =
       (¬ Has (codes "color") (codes "always")) × (¬ Has (codes "color") (codes "never"))
 
+  -- where the token of a board stands: at its place, or in a file that is named
+  abbrev pub IsTokenPlace : TokenPlace → Type 0
+  IsTokenPlace (Word word) = Has (codes "TOKEN") word.now × HasNone (codes "token")
+  IsTokenPlace (File file) = HasNone (codes "TOKEN") × Has (codes "token") file.now
+
   -- which served room is looked at, and how
   pub record IsLook (look : Look) : Type 0 where
     pub address : Has (codes "ADDRESS") look.address.now
-    pub token : Has (codes "TOKEN") look.token.now
+    pub plain : IsFlag (codes "plain") look.plain
+    pub token : IsTokenPlace look.token
     pub incident : IsLimit (codes "incident") 1 2147483647 look.incident
     pub patience : HasNumber 16 (codes "patience") look.patience
     pub color : IsColor look.color
@@ -176,11 +184,17 @@ module _ (given : List Row) where
   abbrev pub AreGiven : Text → Text → Type 0
   AreGiven one other = (¬ HasNone one) × (¬ HasNone other)
 
+  -- where the token of a board stands is left open: neither is given, or both
+  abbrev pub LeavesToken : Mistake → Type 0
+  LeavesToken mistake.NoToken = HasNone (codes "TOKEN") × HasNone (codes "token")
+  LeavesToken (mistake.Conflict one other) = AreGiven (codes "TOKEN") (codes "token")
+  LeavesToken other = ⊥
+
   -- What is wrong with a command over the terminals of this file: an option names nobody, there are
   -- two changes, there is none to be kept, or the list has a name that is the database's.
   abbrev pub IsAmiss : Text → Mistake → Type 0
   IsAmiss file (mistake.Nobody option who) = Has option.now who.now × NamesNobody who.now
-  IsAmiss file (mistake.TwoChanges one other) = AreGiven (codes "new") (codes "revoke")
+  IsAmiss file (mistake.Conflict one other) = AreGiven (codes "new") (codes "revoke")
       ⊎ (AreGiven (codes "new") (codes "from") ⊎ AreGiven (codes "revoke") (codes "from"))
   IsAmiss file mistake.NoChange =
       HasNone (codes "new") × HasNone (codes "revoke") × HasNone (codes "from")

@@ -12,12 +12,14 @@ use Rattle.dispatch_room_cli.specs.declared.command_options.CommandForm.{Command
 use Rattle.dispatch_room_cli.specs.declared.command_options.Word.{Word}
 use Rattle.dispatch_room_cli.specs.declared.command_options.WordKind.{WordKind}
 use Rattle.dispatch_room_cli.specs.declared.command_options.WordKind.TheVariants.{Flag, Named}
-use Rattle.dispatch_room_cli.specs.declared.command_options.WordKind.TheVariants.{Needed, Placed}
+use Rattle.dispatch_room_cli.specs.declared.command_options.WordKind.TheVariants.{Needed, Optional}
+use Rattle.dispatch_room_cli.specs.declared.command_options.WordKind.TheVariants.{Placed}
 
--- what clap reads of an argument of this name, by how it is given: at its place, or behind two
--- hyphens and its name
+-- what clap reads of an argument of this name, by how it is given: at its place, always or not, or
+-- behind two hyphens and its name
 abbrev pub rule_by : Rule → WordKind → Rule
 rule_by bare (Placed parser) = record bare { required = true; parser = Some parser }
+rule_by bare (Optional parser) = record bare { parser = Some parser }
 rule_by bare Flag = record bare { long = Some bare.id; action = Some SetTrue }
 rule_by bare (Needed value parser) =
     record bare { long = Some bare.id; value_names = 1; parser = Some parser; required = true }

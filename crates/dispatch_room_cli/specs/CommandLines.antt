@@ -7,7 +7,8 @@ use Rattle.dispatch_room_cli.specs.declared.command_options.CommandForm.{Command
 use Rattle.dispatch_room_cli.specs.declared.command_options.Word.{Word}
 use Rattle.dispatch_room_cli.specs.declared.command_options.WordKind.{WordKind}
 use Rattle.dispatch_room_cli.specs.declared.command_options.WordKind.TheVariants.{Flag, Named}
-use Rattle.dispatch_room_cli.specs.declared.command_options.WordKind.TheVariants.{Needed, Placed}
+use Rattle.dispatch_room_cli.specs.declared.command_options.WordKind.TheVariants.{Needed, Optional}
+use Rattle.dispatch_room_cli.specs.declared.command_options.WordKind.TheVariants.{Placed}
 
 -- what a word may be: any text, a number from the least to the greatest, or one of some texts
 pub data Values : Type 0 where
@@ -16,10 +17,11 @@ pub data Values : Type 0 where
   among : List Text → Values
   others : Values
 
--- how a word is given: at its place, by its name only, or behind its name: always, or with default
--- values where it is not
+-- how a word is given: at its place, always or not; by its name only; or behind its name, always, or
+-- with default values where it is not
 pub data Manner : Type 0 where
   placed : Values → Manner
+  optional : Values → Manner
   flag : Manner
   needed : Values → Manner
   named : Values → List Text → Manner
@@ -37,6 +39,7 @@ values_of _ = others
 
 abbrev pub manner_of : WordKind → Manner
 manner_of (Placed parser) = placed (values_of parser)
+manner_of (Optional parser) = optional (values_of parser)
 manner_of Flag = flag
 manner_of (Needed value parser) = needed (values_of parser)
 manner_of (Named value parser default) = named (values_of parser) (texts default.now)
@@ -84,8 +87,8 @@ replay_words = text (codes "FILE") ∷ limit (codes "until") 0 4102444799 []
     ∷ []
 
 abbrev board_words : List (Text × Manner)
-board_words = text (codes "ADDRESS") ∷ text (codes "TOKEN")
-    ∷ limit (codes "incident") 1 2147483647 [] ∷ patience
+board_words = text (codes "ADDRESS") ∷ (codes "TOKEN", optional any) ∷ option (codes "token")
+    ∷ switch (codes "plain") ∷ limit (codes "incident") 1 2147483647 [] ∷ patience
     ∷ choice (codes "color") (codes "auto" ∷ codes "always" ∷ codes "never" ∷ []) (codes "auto")
     ∷ explain ∷ []
 

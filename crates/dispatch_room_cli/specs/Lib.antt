@@ -1,4 +1,4 @@
--- addresses of this machine only
+-- addresses of this machine, and others
 pub mod Addresses
 -- what a command line asks for
 pub mod Tasks

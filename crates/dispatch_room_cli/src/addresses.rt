@@ -1,7 +1,8 @@
-//! Where a room may be served.
-ghost use Rattle.std.specs.Prelude.{IfNone, IfSome};
+//! Where a room may be served, and where a token may go.
+ghost use Rattle.std.specs.Prelude.{IfNone, IfSome, MatchBool};
 ghost use Rattle.std.specs.Net.Grammar.{IsSocketText};
-ghost use Rattle.dispatch_room_cli.specs.Addresses.{IsElsewhere, IsLoopback};
+ghost use Rattle.dispatch_room_cli.specs.Addresses.{IsAnother, IsElsewhere, IsLocalhost};
+ghost use Rattle.dispatch_room_cli.specs.Addresses.{IsLoopback, IsThisMachine};
 
 use std::fmt;
 use std::net::{IpAddr, SocketAddr};
@@ -21,6 +22,26 @@ pub fn loopback(text: &str) -> Option<SocketAddr>
             }
         }
         Err(_) => None,
+    }
+}
+
+/// Whether a text names this machine: by an address that no other machine reaches, or as
+/// `localhost`, each with a port. A name has to be looked up, so any other may be another machine's.
+pub fn is_this_machine(text: &str) -> bool
+    ensures { MatchBool result (IsThisMachine text.now) (IsAnother text.now) }
+{
+    match loopback(text) {
+        Some(_) => true,
+        None => is_localhost(text),
+    }
+}
+
+fn is_localhost(text: &str) -> bool
+    ensures { MatchBool result (IsLocalhost text.now) (¬ IsLocalhost text.now) }
+{
+    match text.strip_prefix("localhost:") {
+        Some(port) => port.parse::<u16>().is_ok(),
+        None => false,
     }
 }
 

@@ -8,18 +8,19 @@ ghost use Rattle.dispatch_room_cli.specs.AskedTasks.{Has, HasNoNumber, HasNumber
 ghost use Rattle.dispatch_room_cli.specs.AskedTasks.{IsAmiss, IsAsked, IsColor, IsCount, IsFlag};
 ghost use Rattle.dispatch_room_cli.specs.AskedTasks.{IsJournal, IsLimit, IsList, IsMatched};
 ghost use Rattle.dispatch_room_cli.specs.AskedTasks.{IsNamed, IsOver, IsRead, IsReplay, IsService};
+ghost use Rattle.dispatch_room_cli.specs.AskedTasks.{IsTokenPlace, LeavesToken};
 ghost use Rattle.dispatch_room_cli.specs.AskedTasks.{given_in};
 ghost use Rattle.dispatch_room_cli.specs.Addresses.{IsLoopback};
 ghost use Rattle.dispatch_room_cli.specs.CommandForms.{IsProgram};
 ghost use Rattle.dispatch_room_cli.specs.ExplainedFailures.{Explains};
 ghost use Rattle.dispatch_room_cli.specs.Tasks.{IsHere, IsServedHere};
+ghost use Rattle.dispatch_room_cli.specs.declared.argument_parser.Mistake.TheVariants.{Conflict};
 ghost use Rattle.dispatch_room_cli.specs.declared.argument_parser.Mistake.TheVariants.{NoCommand};
-ghost use Rattle.dispatch_room_cli.specs.declared.argument_parser.Mistake.TheVariants.{TwoChanges};
 
 use crate::addresses::{AddressFault, fault_in, loopback};
 use crate::builder::program;
 use crate::database_names::is_of_database;
-use crate::tasks::{Color, Journal, Look, Replay, Service, Task, Terminals};
+use crate::tasks::{Color, Journal, Look, Replay, Service, Task, Terminals, TokenPlace};
 use crate::who::who_of;
 use clap::error::ErrorKind;
 use clap::{ArgMatches, Command, Error};
@@ -56,13 +57,15 @@ enum Mistake<'a> {
         option: &'a str,
         who: &'a str,
     },
-    /// Two options each change terminals.
-    TwoChanges {
+    /// Two words exclude each other.
+    Conflict {
         one: &'a str,
         other: &'a str,
     },
     /// `--journal` is given, and nothing that changes terminals.
     NoChange,
+    /// A board has no token, neither at its place nor in a file.
+    NoToken,
     /// A journal would have the name of a file that the room's database uses.
     OfDatabase {
         list: &'a str,
@@ -74,11 +77,11 @@ impl<'a> Mistake<'a> {
     fn kind(self) -> ErrorKind {
         match self {
             Mistake::NoCommand => ErrorKind::MissingSubcommand,
-            Mistake::NoChange => ErrorKind::MissingRequiredArgument,
+            Mistake::NoChange | Mistake::NoToken => ErrorKind::MissingRequiredArgument,
             Mistake::NotLoopback { .. } | Mistake::Nobody { .. } | Mistake::OfDatabase { .. } => {
                 ErrorKind::ValueValidation
             }
-            Mistake::TwoChanges { .. } => ErrorKind::ArgumentConflict,
+            Mistake::Conflict { .. } => ErrorKind::ArgumentConflict,
         }
     }
 }
@@ -107,7 +110,8 @@ impl<'a> fmt::Display for Mistake<'a> {
                 "the argument '--journal <LIST>' is used with '--new <WHO>', '--revoke <WHO>' or \
                  '--from <CSV>'",
             ),
-            Mistake::TwoChanges { one, other } => {
+            Mistake::NoToken => f.write_str("one of '[TOKEN]' and '--token <FILE>' is needed"),
+            Mistake::Conflict { one, other } => {
                 write!(f, "the argument '{one}' cannot be used with '{other}'")
             }
         }
@@ -269,9 +273,9 @@ fn terminals_of<'a>(file: &'a str, given: &ArgMatches<'a>) -> Result<Task<'a>, M
 }
 
 fn conflict<'a>(one: &'a str, other: &'a str) -> Mistake<'a>
-    ensures { result ≡ TwoChanges one.entry other.entry }
+    ensures { result ≡ Conflict one.entry other.entry }
 {
-    Mistake::TwoChanges { one, other }
+    Mistake::Conflict { one, other }
 }
 
 // Whom the word behind an option names, where the option is given.
@@ -396,12 +400,27 @@ fn board_of<'a>(given: &ArgMatches<'a>) -> Result<Task<'a>, Mistake<'a>>
 {
     let look = Look {
         address: text(given, "ADDRESS")?,
-        token: text(given, "TOKEN")?,
+        plain: flag(given, "plain"),
+        token: token_of(given)?,
         incident: incident_of(given),
         patience: number(given, "patience")?,
         color: color_of(given)?,
     };
     Ok(Task::Board { look })
+}
+
+// Where the token of a board stands.
+fn token_of<'a>(given: &ArgMatches<'a>) -> Result<TokenPlace<'a>, Mistake<'a>>
+    ensures { MatchResult result
+        (IsTokenPlace (given_in given.now))
+        (LeavesToken (given_in given.now)) }
+{
+    match (word(given, "TOKEN"), word(given, "token")) {
+        (Some(token), None) => Ok(TokenPlace::Word(token)),
+        (None, Some(file)) => Ok(TokenPlace::File(file)),
+        (None, None) => Err(Mistake::NoToken),
+        (Some(_), Some(_)) => Err(conflict("--token <FILE>", "[TOKEN]")),
+    }
 }
 
 fn incident_of(given: &ArgMatches<'_>) -> Option<Number>

@@ -7,7 +7,7 @@ ghost use Rattle.dispatch_room_cli.specs.CommandForms.{IsCommandOf, IsProgram, r
 ghost use Rattle.dispatch_room_cli.specs.CommandForms.{rule_of_word};
 ghost use Rattle.dispatch_room_cli.specs.declared.command_options.WordKind.TheVariants.{Flag};
 ghost use Rattle.dispatch_room_cli.specs.declared.command_options.WordKind.TheVariants.{Named};
-ghost use Rattle.dispatch_room_cli.specs.declared.command_options.WordKind.TheVariants.{Placed};
+ghost use Rattle.dispatch_room_cli.specs.declared.command_options.WordKind.TheVariants.{Optional};
 
 use crate::command_options::{CommandForm, FORMS, Word, WordKind};
 use clap::builder::ValueParser;
@@ -78,7 +78,8 @@ fn arg_of<'a>(alloc: Global, word: &Word) -> Arg<'a>
     ensures { IsArg (rule_of_word word.now) result }
 {
     match word.kind {
-        WordKind::Placed(parser) => placed(alloc, word, parser),
+        WordKind::Placed(parser) => placed(alloc, word, parser).required(true),
+        WordKind::Optional(parser) => placed(alloc, word, parser),
         WordKind::Flag => flag(alloc, word),
         WordKind::Needed { value, parser } => named(alloc, word, value, parser, &[]).required(true),
         WordKind::Named {
@@ -90,10 +91,9 @@ fn arg_of<'a>(alloc: Global, word: &Word) -> Arg<'a>
 }
 
 fn placed<'a>(alloc: Global, word: &Word, parser: ValueParser<'a>) -> Arg<'a>
-    ensures { IsArg (rule_by (new_rule word.now.name.now) (Placed parser.entry)) result }
+    ensures { IsArg (rule_by (new_rule word.now.name.now) (Optional parser.entry)) result }
 {
     Arg::new(alloc, word.name)
-        .required(true)
         .value_parser(parser)
         .help(word.help)
 }

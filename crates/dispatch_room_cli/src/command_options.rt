@@ -25,6 +25,8 @@ pub struct Word {
 pub enum WordKind {
     /// At its place; it must be given.
     Placed(ValueParser<'static>),
+    /// At its place, if it is given.
+    Optional(ValueParser<'static>),
     /// By its name only.
     Flag,
     /// Behind its name, and it must be given: its name in help, and which values it takes.
@@ -303,7 +305,7 @@ const BOARD: CommandForm = CommandForm {
     about: "Shows what a desk sees in a room that is served: queue, incidents, vehicles, points, \
          offers and loans",
     end: "It only reads. A live board: watch -c -n 5 dispatch_room board .. --color always\n\n\
-         Example: dispatch_room board 127.0.0.1:8080 deskone1 --incident 1",
+         Example: dispatch_room board 127.0.0.1:8080 --token desk1.token --incident 1",
     words: &[
         Word {
             name: "ADDRESS",
@@ -312,8 +314,23 @@ const BOARD: CommandForm = CommandForm {
         },
         Word {
             name: "TOKEN",
-            kind: TEXT,
-            help: "The token of the desk",
+            kind: WordKind::Optional(ValueParser::String),
+            help: "The token of the desk, if not by --token: others on the machine can see it here",
+        },
+        Word {
+            name: "token",
+            kind: WordKind::Named {
+                value: "FILE",
+                parser: ValueParser::String,
+                default: &[],
+            },
+            help: "Take the token from the first line of this file",
+        },
+        Word {
+            name: "plain",
+            kind: WordKind::Flag,
+            help: "Send the token in plain HTTP to another machine too: without this ADDRESS is of \
+                 127.0.0.0/8, [::1] or localhost",
         },
         Word {
             name: "incident",

@@ -1,7 +1,7 @@
 //! The command line of dispatch_room: what its words ask for, and the help that it gives.
 #![tactic(auto)]
 
-mod addresses;
+pub mod addresses;
 pub mod argument_parser;
 mod builder;
 mod command_options;

@@ -189,13 +189,24 @@ pub enum Terminals {
 pub struct Look<'a> {
     /// Where the room is served.
     pub address: &'a str,
-    /// The token of the desk.
-    pub token: &'a str,
+    /// Whether it may be another machine, which gets the token in plain HTTP.
+    pub plain: bool,
+    /// Where the token of the desk stands.
+    pub token: TokenPlace<'a>,
     /// The incident that is shown too, with what came of it and whom to send.
     pub incident: Option<Number>,
     /// How many seconds it takes in all, at most.
     pub patience: u16,
     pub color: Color,
+}
+
+/// Where the token of a desk stands.
+#[derive(Clone, Copy)]
+pub enum TokenPlace<'a> {
+    /// It is a word of the command line, which others on the machine can see.
+    Word(&'a str),
+    /// It is the first line of a file.
+    File(&'a str),
 }
 
 /// Whether a board has colours.

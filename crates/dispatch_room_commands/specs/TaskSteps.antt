@@ -6,7 +6,7 @@ use Rattle.std.specs.Prelude.{Vec, [], codes, false, is_some, map, true, ⊤, �
 use Rattle.clap.specs.Words.{kind_of}
 use Rattle.clap.specs.declared.error.Error.{Error}
 use Rattle.sqlite_disk.specs.declared.Disk.{Ghosts as Disk}
-use Rattle.room_types.specs.Texts.{Token, is_token}
+use Rattle.room_types.specs.Texts.{Token}
 use Rattle.dispatch_room_archive.specs.declared.division_days.DivisionDay.{DivisionDay}
 use Rattle.dispatch_room_archive.specs.declared.renewal.Successor.{Successor}
 use Rattle.dispatch_room_board.specs.Boards.{IsBoard}
@@ -16,6 +16,7 @@ use Rattle.dispatch_room_board.specs.declared.exchange.TheConstants.{MOST_HEARD}
 use Rattle.dispatch_room_changes.specs.ChangeSteps.{IsImport, IsInit, IsKeptImport, IsReplan}
 use Rattle.dispatch_room_changes.specs.ChangeSteps.{IsSetting, IsTerminals}
 use Rattle.dispatch_room_changes.specs.declared.kept_changes.ChangedFile.{ChangedFile}
+use Rattle.dispatch_room_cli.specs.Addresses.{IsAnother, IsThisMachine}
 use Rattle.dispatch_room_cli.specs.AskedTasks.{IsRead}
 use Rattle.dispatch_room_exit.specs.ExitStatus.{status_after}
 use Rattle.dispatch_room_cli.specs.Tasks.{IsServedHere}
@@ -33,9 +34,12 @@ use Rattle.dispatch_room_cli.specs.declared.tasks.Task.TheVariants.{Init, Joined
 use Rattle.dispatch_room_cli.specs.declared.tasks.Task.TheVariants.{Renew, Replan, Replay, Restore}
 use Rattle.dispatch_room_cli.specs.declared.tasks.Task.TheVariants.{Serve, SetTerminals, Terminals}
 use Rattle.dispatch_room_cli.specs.declared.tasks.Task.TheVariants.{Times, Verify}
+use Rattle.dispatch_room_cli.specs.declared.tasks.TokenPlace.{TokenPlace}
+use Rattle.dispatch_room_cli.specs.declared.tasks.TokenPlace.TheVariants.{File, Word}
 use Rattle.dispatch_room_commands.specs.CommandEnds.{IsWordsOutput, IsWordsStatus, end_of_board}
 use Rattle.dispatch_room_commands.specs.RoomTasks.{Begins, Digests, Examines, FindsDay, LeavesRows}
 use Rattle.dispatch_room_commands.specs.RoomTasks.{Moves, Replays, Reports, ReportsBoth}
+use Rattle.dispatch_room_commands.specs.TokenFiles.{IsTokenIn, IsTokenOf}
 use Rattle.dispatch_room_commands.specs.VerifiedLists.{FlawsList, none_text, tally_text}
 use Rattle.dispatch_room_disk.specs.AsideNames.{found_text}
 use Rattle.dispatch_room_disk.specs.CommandSteps.{Gives, Output, Prints, Shows, Silent, Stand, Step}
@@ -51,8 +55,8 @@ use Rattle.dispatch_room_journal.specs.RecordFronts.{list_says}
 use Rattle.dispatch_room_journal.specs.declared.list_tallies.Tally.{Tally}
 use Rattle.dispatch_room_journal.specs.declared.read_progress.Reach.TheVariants.{Full}
 use Rattle.dispatch_room_serving.specs.declared.change_marks.ListOnDisk.{ListOnDisk}
-use Rattle.dispatch_room_tcp.specs.Hosts.{Command, Effect, IsUnread, Works, asked, called, found}
-use Rattle.dispatch_room_tcp.specs.Hosts.{left, replaced, taken}
+use Rattle.dispatch_room_tcp.specs.Hosts.{Command, Effect, IsUnread, Reads, Works, asked, called}
+use Rattle.dispatch_room_tcp.specs.Hosts.{found, left, replaced, taken}
 use Rattle.dispatch_room_tcp.specs.ServedFiles.{IsServe}
 
 -- what all of a list says, by what is known of its bytes
@@ -114,10 +118,21 @@ module _ {F : Type 0} where
   abbrev pub IsVerify : List ℕ → Command F Done
   IsVerify path = Then (OpensToRead path) (LooksThrough path)
 
-  -- there is a token to ask with
-  abbrev pub HasToken : Look → Command F Token
-  HasToken look = Silent (λ token. MatchResult token (λ it. is_token look.token.now ≡ true)
-      (λ fault. (fault ≡ failure.Input) × (¬ (is_token look.token.now ≡ true))))
+  -- A token may go to the address: it is this machine's, or another machine may get it in plain
+  -- HTTP. Else the board is refused.
+  abbrev pub MayAsk : Look → Command F (Unit {0})
+  MayAsk look = Silent (λ came. MatchResult came
+      (λ _. (look.plain ≡ true) ⊎ IsThisMachine look.address.now)
+      (λ fault. (fault ≡ failure.Input) × (look.plain ≡ false) × IsAnother look.address.now))
+
+  -- a token is read: the first line of a file
+  abbrev pub ReadsToken : List ℕ → Command F Token
+  ReadsToken path = Then (Reads path) (λ text. Silent (IsTokenIn text.items))
+
+  -- the token of a desk is read so, or is a word of the command line
+  abbrev pub TakesToken : TokenPlace → Command F Token
+  TakesToken (Word text) = Silent (IsTokenOf text.now)
+  TakesToken (File path) = ReadsToken path.now
 
   -- whether a board has colours: as it was asked, or where standard output is a terminal
   abbrev pub Colours : Color → Command F Bool
@@ -134,17 +149,22 @@ module _ {F : Type 0} where
   module _ (heard : List ℕ → ℕ → List ℕ → ℕ → List ℕ → Type 0) where
     -- What a desk hears of the room where it asks for its board, within its seconds, is shown; or
     -- memory fails.
-    abbrev pub ShowsBoard : Look → Bool → Command F Done
-    ShowsBoard look colour before after came = ((came ≡ Err failure.Memory)
+    abbrev pub ShowsBoard : Look → Token → Bool → Command F Done
+    ShowsBoard look token colour before after came = ((came ≡ Err failure.Memory)
         × (after.printed ≡ before.printed) × (after.done ≡ before.done))
         ⊎ ((said : List ℕ) × heard look.address.now (look.patience * 1_000_000_000)
-        (requests look.token.now look.incident) MOST_HEARD said
+        (requests token look.incident) MOST_HEARD said
         × Shows (PrintsBoard said (is_some look.incident) colour) before after came)
 
-    -- the board of a desk that has a token is shown, in colours as it was asked
+    -- a room is asked with a token, and what is heard is shown, in colours as it was asked
+    abbrev pub AsksRoom : Look → Token → Command F Done
+    AsksRoom look token = Then (Colours look.color)
+        (λ colour. Then (Calls look) (λ _. ShowsBoard look token colour))
+
+    -- The board of a desk is shown. Where its token may not go to the address no file is read, and
+    -- where it has none no room is called.
     abbrev pub IsBoardOf : Look → Command F Done
-    IsBoardOf look = Then (HasToken look) (λ _. Then (Colours look.color)
-        (λ colour. Then (Calls look) (λ _. ShowsBoard look colour)))
+    IsBoardOf look = Then (MayAsk look) (λ _. Then (TakesToken look.token) (AsksRoom look))
 
   -- on such a disk
   module _ {D : Type 0} (g : Disk D) where

@@ -1,20 +1,23 @@
 //! `board`: a served room is asked as a desk, and what the desk sees is shown.
-ghost use Rattle.std.specs.Prelude.{◌≡◌, ◌⊎◌, ℕ, Err, List, IfOk, IfSome, Ok, SomeIff, false};
+ghost use Rattle.std.specs.Prelude.{◌≡◌, ◌⊎◌, ℕ, Err, List, IfOk, IfSome, MatchResult, Ok, false};
 ghost use Rattle.std.specs.Prelude.{is_some, true};
+ghost use Rattle.dispatch_room_cli.specs.Addresses.{IsAnother, IsThisMachine};
 ghost use Rattle.dispatch_room_commands.specs.CommandEnds.{end_of_board};
-ghost use Rattle.dispatch_room_commands.specs.TaskSteps.{Colours, IsBoardOf, PrintsBoard};
+ghost use Rattle.dispatch_room_commands.specs.TaskSteps.{AsksRoom, Colours, IsBoardOf, PrintsBoard};
 ghost use Rattle.dispatch_room_disk.specs.CommandSteps.{Quietly, at};
-ghost use Rattle.room_types.specs.Texts.{is_token};
 ghost use Rattle.dispatch_room_board.specs.Requests.{requests};
 ghost use Rattle.dispatch_room_board.specs.declared.exchange.TheConstants.{MOST_HEARD};
-ghost use Rattle.dispatch_room_exit.specs.declared.exit_status.Failure.TheVariants.{Memory};
+ghost use Rattle.dispatch_room_exit.specs.declared.exit_status.Failure.TheVariants.{Input, Memory};
 ghost use Rattle.dispatch_room_tcp.specs.HeardRooms.{IsHeard};
 
+use crate::token_files::token_of;
 use dispatch_room_board::boards::{Reached, board_of};
 use dispatch_room_board::exchange::{hear, send};
 use dispatch_room_board::requests::Asker;
+use dispatch_room_cli::addresses::is_this_machine;
 use dispatch_room_cli::tasks::{Color, Look};
 use dispatch_room_exit::exit_status::{Done, Failure};
+use dispatch_room_exit::failure_causes::Explainer;
 use dispatch_room_tcp::hosts::Machine;
 use room_http_messages::sinks::Sink;
 use room_http_messages::sources::Source;
@@ -24,9 +27,10 @@ use std::io::Write;
 use std::time::Duration;
 
 /// Shows the board of a desk, of what it hears of the room at an address within a time: what could
-/// not be reached is shown in it, and by the end. A text that is no token is refused, and nothing
-/// is asked.
+/// not be reached is shown in it, and by the end. Where there is no token, or the address may be
+/// another machine's, to which no token may go in plain HTTP, nothing is asked, and why is explained.
 pub fn board<M: Machine, O: Write>(
+    explainer: Explainer<'_>,
     machine: &mut M,
     look: &Look<'_>,
     out: &mut O,
@@ -34,25 +38,46 @@ pub fn board<M: Machine, O: Write>(
     ensures { IsBoardOf M.heard look.now (at (O.contents out.old) (M.done machine.old))
         (at (O.contents out.new) (M.done machine.new)) result }
 {
-    let Some(asker) = asker_of(look) else {
-        return Err(Failure::Input);
+    may_ask(explainer, look)?;
+    let token = token_of(explainer, machine, look.token)?;
+    ask(machine, look, token, out)
+}
+
+// Whether a token may go to the address. Explains why it may not.
+fn may_ask(explainer: Explainer<'_>, look: &Look<'_>) -> Result<(), Failure>
+    ensures { MatchResult result
+        (λ _. (look.now.plain ≡ true) ⊎ IsThisMachine look.now.address.now)
+        (λ fault. (fault ≡ Input) × (look.now.plain ≡ false) × IsAnother look.now.address.now) }
+{
+    if look.plain || is_this_machine(look.address) {
+        return Ok(());
+    }
+    let address = look.address;
+    explainer.explain(format_args!(
+        "{address} may be another machine's, to which the token would go in plain HTTP: --plain \
+         lets it"
+    ));
+    Err(Failure::Input)
+}
+
+// Asks the room with a token, and shows what is heard.
+fn ask<M: Machine, O: Write>(
+    machine: &mut M,
+    look: &Look<'_>,
+    token: Token,
+    out: &mut O,
+) -> Result<Done, Failure>
+    ensures { AsksRoom M.heard look.now token (at (O.contents out.old) (M.done machine.old))
+        (at (O.contents out.new) (M.done machine.new)) result }
+{
+    let asker = Asker {
+        token,
+        incident: look.incident,
     };
     let colour = has_colour(machine, look.color);
     let patience = Duration::from_secs(u64::from(look.patience));
     let sides = machine.call(look.address, patience);
     show(machine.alloc(), &asker, sides, colour, out)
-}
-
-// Who asks, and of which incident: nobody where the text is no token.
-fn asker_of(look: &Look<'_>) -> Option<Asker>
-    ensures { SomeIff result (is_token look.now.token.now ≡ true)
-        (record { token = look.now.token.now; incident = look.now.incident }) }
-{
-    let token = Token::parse(look.token)?;
-    Some(Asker {
-        token,
-        incident: look.incident,
-    })
 }
 
 // Shows the board of what is heard of a room on the sides of a connection to it.

@@ -181,7 +181,7 @@ fn perform<M: Machine, O: Write, E: Write>(
         } => replay(explainer, machine, file, how, out, err),
         Task::Renew { file, new, since } => renew(machine, file, new, since, out),
         Task::Verify { list } => verify_list(machine, list, out),
-        Task::Board { ref look } => board(machine, look, out),
+        Task::Board { ref look } => board(explainer, machine, look, out),
         Task::Times {
             file,
             division,

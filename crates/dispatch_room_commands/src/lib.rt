@@ -14,4 +14,5 @@ mod replay;
 mod restore;
 mod task_causes;
 mod times;
+mod token_files;
 mod verify;

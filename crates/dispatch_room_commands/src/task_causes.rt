@@ -3,6 +3,7 @@
 use dispatch_room_cli::tasks::{Task, Terminals};
 use dispatch_room_exit::exit_status::{Done, Failure};
 use dispatch_room_exit::failure_causes::Explainer;
+use room_http_time::days::Day;
 use room_types::asks::Who;
 
 /// Explains why a task failed, unless that was explained where it failed.
@@ -26,9 +27,7 @@ pub fn explain(explainer: Explainer<'_>, task: &Task<'_>, done: &Result<Done, Fa
                 let division = division.get();
                 explainer.explain(format_args!("no division {division} in the plan of {file}"));
             }
-            Failure::Day => explainer.explain(format_args!(
-                "\"{day}\" is no day from 1970-01-01 to 2099-12-31"
-            )),
+            Failure::Day => explain_no_day(explainer, day),
             _ => {}
         },
         Task::Replay { file, .. } => explain_replay(explainer, file, fault),
@@ -40,10 +39,7 @@ pub fn explain(explainer: Explainer<'_>, task: &Task<'_>, done: &Result<Done, Fa
             explain_unchanged(explainer, file, wanted, fault);
         }
         Task::Renew { file, since, .. } if fault == Failure::Day => {
-            explainer.explain(format_args!(
-                "\"{since}\" is no day from 1970-01-01 to 2099-12-31, or begins less than two days \
-                 before the last moment of {file}"
-            ));
+            explain_since(explainer, file, since);
         }
         Task::Verify { list } => {
             if let Failure::Record(number) = fault {
@@ -52,10 +48,22 @@ pub fn explain(explainer: Explainer<'_>, task: &Task<'_>, done: &Result<Done, Fa
                 ));
             }
         }
-        Task::Board { .. } if fault == Failure::Input => {
-            explainer.explain("TOKEN is not 8 to 32 of A-Z, a-z and 0-9");
-        }
         _ => {}
+    }
+}
+
+fn explain_no_day(explainer: Explainer<'_>, text: &str) {
+    explainer.explain(format_args!("\"{text}\" is no day from 1970-01-01 to 2099-12-31"));
+}
+
+// Explains why a new room can't begin with a day: the text is none, or it is too late for a room.
+fn explain_since(explainer: Explainer<'_>, file: &str, since: &str) {
+    if Day::parse(since).is_none() {
+        explain_no_day(explainer, since);
+    } else {
+        explainer.explain(format_args!(
+            "{since} begins less than two days before the last moment of {file}"
+        ));
     }
 }
 

@@ -10,7 +10,7 @@ ghost use Rattle.dispatch_room_disk.specs.RoomFiles.{Closes, IsConnected, IsCopi
 ghost use Rattle.dispatch_room_disk.specs.RoomFiles.{IsUnclosed, IsUnfound, IsUnharmed};
 ghost use Rattle.dispatch_room_disk.specs.SystemFiles.{system};
 
-use crate::file_causes::{explain_failed, explain_unbegun, explain_undone};
+use crate::file_causes::{explain_failed, explain_taken, explain_unbegun, explain_undone};
 use crate::new_files::{begin_in, make_private};
 use crate::new_logs::{lacked_log, remove_unused};
 use crate::opened_files::open_files;
@@ -45,7 +45,8 @@ impl<'a> RoomFile<'a> {
 }
 
 /// Opens the database of a room's file. An empty log that was not there before is removed again if
-/// the files that were opened hold no database. Explains why if it can't be opened.
+/// the files that were opened hold no database. Explains why if it can't be opened, or something is
+/// in it where it has to be empty.
 pub fn open(
     rt: &HostRuntime,
     explainer: Explainer<'_>,
@@ -57,7 +58,7 @@ pub fn open(
 {
     let lacked = lacked_log(rt, file.path());
     let (files, options) = opened(&mut System { rt, explainer }, file)?;
-    connection(rt, explainer, file.path(), lacked, files, options)
+    connection(rt, explainer, file, lacked, files, options)
 }
 
 /// What came of work in the database of a room's file, once the file is closed with all that was
@@ -138,7 +139,7 @@ impl<'a> Opening for System<'a> {
 fn connection<D: Disk + Drop>(
     rt: &HostRuntime,
     explainer: Explainer<'_>,
-    path: &str,
+    file: RoomFile<'_>,
     lacked: Option<String>,
     files: Files<D>,
     options: Options,
@@ -151,11 +152,14 @@ fn connection<D: Disk + Drop>(
     ensures fault { IfErr result IsFileFault }
 {
     match Connection::open_files(rt.alloc(), files, options) {
-        Ok(conn) => Ok(conn),
+        Ok(conn) => {
+            explain_taken(explainer, file, conn.schema());
+            Ok(conn)
+        }
         Err((error, left)) => {
             remove_unused(rt, lacked, &left);
             drop(left);
-            Err(fault_of(explainer, path, error))
+            Err(fault_of(explainer, file.path(), error))
         }
     }
 }

@@ -90,8 +90,8 @@ pub(crate) trait ListFile {
         ensures fault { IfErr result (λ fault.
             (fault ≡ Memory) ⊎ ((fault ≡ Journal) × is_unread self.now)) };
 
-    /// How many bytes the mark beside it has, which are those that lasted before a change: `None` if
-    /// there is no mark.
+    /// How many bytes the mark beside it has, which are those that lasted before a change: `None`
+    /// if there is no mark.
     fn mark(&self) -> Result<Option<u64>, Failure>
         ensures marks { IfOk result (marks self.now) }
         ensures fault { IfErr result (λ fault.
