@@ -179,7 +179,7 @@ class Machines:
 
     def list(self, number=1):
         """The list, which is asked again where etcd is silent. What is done twice is the same."""
-        return kept_list.KeptList(etcd.PatientMember(self.reach(number), PATIENCE, PATIENCE))
+        return kept_list.KeptList(etcd.Member(self.reach(number), PATIENCE, PATIENCE))
 
     def companion_does(self, number, *words):
         """Runs a command of the companion; gives its status and what it reported."""

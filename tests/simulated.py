@@ -31,7 +31,7 @@ import said
 import turns
 import upkeep
 from entries import first_entry
-from machine import Machine, Settings
+from machine import Machine
 from messages import Request
 
 NUMBERS = 1, 2, 3
@@ -157,7 +157,7 @@ class Etcd:
         if not self.has_majority(number):
             raise etcd.Unreached('etcd: timed out')
         holds = all(map(self.holds, asked.get('compare', ())))
-        then = then if holds else asked['failure']
+        then = then if holds else []
         self.revision += writes({'success': then})
         done = [self.do(it) for it in then]
         self.catch_up()
@@ -174,7 +174,6 @@ class Wire:
 
     def __init__(self, reach, within):
         self.reach, self.within = reach, within
-        self.connection = types.SimpleNamespace(timeout=within, close=lambda: None)
 
     def sizes(self):
         return etcd.Sizes()
@@ -386,7 +385,9 @@ class Companions:
 
     async def run(self, number):
         """As companion.run, and again where it ends."""
-        given = types.SimpleNamespace(folder=self.folder / str(number), machine=number)
+        given = types.SimpleNamespace(folder=self.folder / str(number), machine=number, of=3,
+                                      deadline=3.0, trust_clock=False, log=False,
+                                      revisions=10_000, away_after=1e9)
         while True:
             try:
                 kept = kept_list.KeptList(Member(None, 1))
@@ -394,8 +395,7 @@ class Companions:
                 connections = self.connections[number] = Connections()
                 how = playing.Playing('', given.folder, self.folder / f'work{number}',
                                       self.copy_every, self.copy_every * number // 3)
-                settings = Settings(number, 3, 3.0, False, False, 10_000, 1e9)
-                machine = self.machines[number] = Machine(settings, how, copy, place, connections)
+                machine = self.machines[number] = Machine(given, how, copy, place, connections)
                 tending, asked = upkeep.Upkeep(machine, None), keeping.Keeping(machine, None)
                 health.Health(machine, tending)
                 await machine.serve(asked.catch_up, asked.hear, asked.watch_over, asked.follow,

@@ -148,17 +148,17 @@ class Lists(ThreeTestCase):
             kept.keep(Place(9, first.place.digest, 9), 9, [a])
         second = kept.keep(first.place, 5, [b]).entries[0]
         self.check('the next, at no earlier moment', (second.number, second.moment), (3, 9))
-        revision = kept.read(second.place, True).revision
+        revision = kept.read(second.place).revision
         stray = entries.entry_behind(second.place, 9, [a])
         kept.change([], [kept_list.put(kept_list.key_of(4), stray.text)])
         other = entries.entry_behind(second.place, 9, [b])
         asked = kept_list.keeping(second.place, other, revision)
         self.check('nothing over what was put since',
                    kept.member.ask(kept_list.TXN, asked).get('succeeded'), None)
-        self.check('it is taken', [kept.read(second.place, True).entries for _ in range(2)],
+        self.check('it is taken', [kept.read(second.place).entries for _ in range(2)],
                    [[], [stray]])
         kept.drop_before(3)
-        self.check('read on', kept.read(first.place, True).entries, [second, stray])
+        self.check('read on', kept.read(first.place).entries, [second, stray])
         with self.assertRaises(kept_list.Lost):
             kept.keep(begun, 9, [a])
         self.check('a list that has gone on is not begun again',

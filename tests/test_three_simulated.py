@@ -95,12 +95,12 @@ class Puts(TestCase):
         kept = kept_list.KeptList(simulated.Member(None, 1))
         first = first_entry('0' * 64).place
         kept.begin(first_entry('0' * 64))
-        revision = kept.read(first, True).revision
+        revision = kept.read(first).revision
         b, c = (entry_behind(first, 9, [Record(f'{it}-1', MESSAGE)] * it) for it in (1, 2))
         kept.change([], [kept_list.put(kept_list.key_of(b.number), b.text)])
         asked = kept_list.keeping(first, c, revision)
         self.check('none beside it', kept.member.ask(kept_list.TXN, asked).get('succeeded'), None)
-        self.check('it is taken', [kept.read(first, True).entries for _ in range(2)], [[], [b]])
+        self.check('it is taken', [kept.read(first).entries for _ in range(2)], [[], [b]])
 
 
 class Terminal:
@@ -356,6 +356,38 @@ class Revoked(TestCase):
             run = Run(folder, seed, 'desk:')
             outcomes, status = played(run, self.revoked(run))
             self.check(f'{seed}: it is taken away', (outcomes[-1], status), ('changed', 403))
+
+
+class WentBack(TestCase):
+    async def went_back(self, run):
+        """etcd has again what it had before some changes, until each machine has ended; gives the
+        last answer."""
+        await run.start()
+        one, before = run.terminals[0], dict(run.three.etcd.rows)
+        for it in range(7):
+            await one.ask(b'POST /x', b'%d' % it)
+        await run.until(lambda: {it.player.played for it in run.three.machines.values()} == {7},
+                        'all are level')
+        run.three.etcd.rows = before
+        run.three.etcd.catch_up()
+        await run.until(lambda: len(run.three.ended) == 3, 'all end')
+        await run.all_serve()
+        for it in NUMBERS:
+            await run.three.stop(it)
+        return one.answered[-1].body
+
+    def test_copy(self):
+        """A machine that ends as the list went back leaves a copy of all that was answered."""
+        for seed in range(5):
+            folder = self.folder / str(seed)
+            folder.mkdir()
+            run = Run(folder, seed)
+            last = played(run, self.went_back(run))
+            left = [max((folder / str(it)).glob('lost.*')) for it in NUMBERS]
+            self.check(f'{seed}: of the last record', [it.name.split('.')[1] for it in left],
+                       [f'{7:012}'] * 3)
+            self.check(f'{seed}: with all', [json.loads(it.read_text())['rows'] for it in left],
+                       [last] * 3)
 
 
 class Simulated(TestCase):

@@ -6,6 +6,7 @@ import contextlib
 import dataclasses
 import pathlib
 import re
+import shutil
 import subprocess
 import tempfile
 import typing
@@ -152,4 +153,4 @@ class Change:
             with contextlib.suppress(Exception, asyncio.CancelledError):
                 await self.task
         if self.file:
-            copies.drop_part(self.file.parent)
+            shutil.rmtree(self.file.parent, ignore_errors=True)

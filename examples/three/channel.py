@@ -5,7 +5,7 @@ import collections.abc
 import json
 import re
 
-from etcd import Member, NoUser, Reach, Unreached, fault_of
+from etcd import NoUser, Reach, Unreached, fault_of, take_token
 
 LENGTH = re.compile(rb'\r\ncontent-length: (\d+)', re.I)
 END = b'\r\n\r\n'
@@ -125,7 +125,7 @@ class Channel:
         except NoUser:
             if not self.reach.user:
                 raise
-            await asyncio.to_thread(Member(self.reach, self.within).take_token)
+            await asyncio.to_thread(take_token, self.reach)
             return json.loads(await self.exchange(path, body))
 
     async def exchange(self, path: str, body: bytes) -> bytes:
@@ -153,7 +153,6 @@ class Channel:
             await self.connect()
         self.wire.take_line = take_line
         token = f'Authorization: {self.reach.token}\r\n' if self.reach.token else ''
-        # Where a request has no Accept, etcd takes its own certificate for the user's.
         head = (f'POST {path} HTTP/1.1\r\nHost: {self.reach.host}\r\nAccept: application/json\r\n'
                 f'{token}Content-Length: {len(body)}\r\n\r\n')
         answered = self.wire.send(head.encode() + body)

@@ -39,13 +39,13 @@ from etcd import Unreached
 from health import Health, Starting
 from keeping import TRY_EVERY, Keeping
 from kept_list import OUTCOMES, KeptList, Lost, delete, span
-from machine import Machine, Settings
+from machine import Machine
 from played_room import Changed, Ended
 from playing import Playing
 from said import say
 from terminals import Connections
 from upkeep import CHANGES_WITHIN, OUT, Upkeep
-from words import WAITS, Refused, kept_list, patient_list
+from words import WAITS, Refused, kept_list
 
 STARTS_EVERY = 1.0  # seconds between two looks at the list, before it has a copy's record
 FLEET_HEAD, PLAN_HEAD = 'callsign,division,kind,place,token', 'what,number,a,b,c,d'
@@ -145,7 +145,7 @@ def change(given: argparse.Namespace) -> None:
     token = secrets.token_hex(16)
     text = text_of(given, token)
     tried(given, text)
-    said = made(patient_list(given), text).decode(errors='replace')
+    said = made(kept_list(given), text).decode(errors='replace')
     if said.startswith('refused'):
         raise Refused(said.strip())
     print(f'{token}\n' if given.command == 'terminals' and given.new else said, end='')
@@ -181,7 +181,7 @@ async def place_to_begin(given: argparse.Namespace, starting: Starting) -> tuple
     """Where the room begins, once etcd answers and the list has a copy's record."""
     while True:
         try:
-            return await asyncio.to_thread(copy_in_list, kept_list(given), given)
+            return await asyncio.to_thread(copy_in_list, kept_list(given, 0), given)
         except (NoCopy, Unreached) as error:
             starting.why = str(error)
             say(error)
@@ -194,11 +194,9 @@ async def run(given: argparse.Namespace) -> None:
     await connections.listen(*given.listen)
     sweeping = asyncio.create_task(connections.sweep())
     copy, place = await place_to_begin(given, starting)
-    settings = Settings(given.machine, given.of, given.deadline, given.trust_clock, given.log,
-                        given.revisions, given.away_after)
     how = Playing(given.program, given.folder, given.work, given.copy_every,
                   given.copy_every * given.machine // given.of)
-    machine = Machine(settings, how, copy, place, connections)
+    machine = Machine(given, how, copy, place, connections)
     reach = words.reach_of(given)
     keeping, upkeep = Keeping(machine, reach), Upkeep(machine, reach)
     Health(machine, upkeep)

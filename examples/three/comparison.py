@@ -33,7 +33,7 @@ class Comparison:
     def first_differing(self) -> dict[int, tuple[int, str]]:
         """The machines that differ, with the record, and in what."""
         found: dict[int, tuple[int, str]] = {}
-        for (other, kind), number in self.differs.items():
+        for (other, kind), number in [*self.differs.items()]:  # another thread may note one
             found[other] = min((number, kind), found.get(other, (number, kind)))
         return found
 

@@ -125,7 +125,3 @@ def last_agreed(folder: pathlib.Path) -> float:
     """The last record up to which a copy is good, for all that was noted."""
     file = folder / 'agreed'
     return int(file.read_text()) if file.exists() else float('inf')
-
-
-def drop_part(part: pathlib.Path) -> None:
-    shutil.rmtree(part, ignore_errors=True)

@@ -12,18 +12,16 @@ MOST_RECORDS = 400  # of one entry; etcd takes one and a half megabytes
 MOST_CHANGE = 1 << 18  # bytes of a change
 LAST_READ = 4  # entries that are known again, as the last one is heard, found and read
 # The head of a message as companions write it: no other is given to a room.
-WRITTEN_HEAD = (rb'[A-Z]{1,16} /[A-Za-z0-9/-]{0,127} HTTP/1\.1\r\nHost: room\r\n'
-                rb'X-Terminal: [A-Za-z0-9]{8,32}\r\nContent-Length: (\d{1,4})\r\n\r\n')
-WRITTEN = re.compile(WRITTEN_HEAD)
+WRITTEN = re.compile(rb'[A-Z]{1,16} /[A-Za-z0-9/-]{0,127} HTTP/1\.1\r\nHost: room\r\n'
+                     rb'X-Terminal: [A-Za-z0-9]{8,32}\r\nContent-Length: (\d{1,4})\r\n\r\n')
 # The program's command, and the lines of its file.
 CHANGE = re.compile(rb'(import|replan|terminals --from)\n.+'
                     rb'|terminals --revoke (desk|position):[1-9]\d{0,8}\n'
                     rb'|renew --since \d{4}-\d\d-\d\d\n', re.S)
 NAME = re.compile(r'[0-9a-z-]{1,64}')
 NUMBER = rb'(0|[1-9][0-9]{0,11})'
-HEAD = re.compile(rb'entry 2 (\S+) %b %b %b\n' % (NUMBER, NUMBER, NUMBER))
+HEAD = re.compile(rb'entry 2 ([0-9a-f]{64}) %b %b %b\n' % (NUMBER, NUMBER, NUMBER))
 RECORD = re.compile(rb'([a-z]{1,16}) ([0-9a-z-]{1,64}) %b\n' % NUMBER)
-MESSAGE = re.compile(rb'message ([0-9a-z-]{1,64}) %b\n(?:%b)' % (NUMBER, WRITTEN_HEAD))
 
 
 class NoEntry(Exception):
@@ -112,18 +110,6 @@ def entry_behind(place: Place, moment: int, records: list[Record]) -> Entry:
                  tuple(records))
 
 
-def message_at(text: bytes, at: int) -> tuple[Record, int] | None:
-    """The record of a message at a place of a text, and the place behind it; nothing where none is
-    there. It is what record_at finds too, for less, as nearly all are messages."""
-    found = MESSAGE.match(text, at)
-    if found:
-        behind = found.end() + int(found[3])
-        begin = text.index(b'\n', at) + 1
-        if behind == begin + int(found[2]) and text[behind:behind + 1] == b'\n':
-            return Record(found[1].decode(), text[begin:behind]), behind + 1
-    return None
-
-
 def record_at(text: bytes, at: int) -> tuple[Record, int]:
     """The record at a place of a text, and the place behind it."""
     head = RECORD.match(text, at)
@@ -140,7 +126,7 @@ def records_of(text: bytes, at: int, count: int) -> list[Record]:
     """Whole records, so many, behind a place of a text, which end it."""
     found = []
     for _ in range(count):
-        record, at = message_at(text, at) or record_at(text, at)
+        record, at = record_at(text, at)
         found.append(record)
     if at != len(text):
         raise NoEntry('something stands behind it')
@@ -153,11 +139,8 @@ def entry_of(text: bytes) -> Entry:
     head = HEAD.match(text)
     if not head or int(head[4]) > MOST_RECORDS:
         raise NoEntry('it has another form')
-    try:
-        found = Entry(head[1].decode('ascii'), int(head[2]), int(head[3]),
-                      tuple(records_of(text, head.end(), int(head[4]))))
-    except UnicodeDecodeError:
-        raise NoEntry('it has another form') from None
+    found = Entry(head[1].decode(), int(head[2]), int(head[3]),
+                  tuple(records_of(text, head.end(), int(head[4]))))
     if len(found.records) > 1 and not found.has_messages:
         raise NoEntry('a change stands beside another record')
     found.__dict__['text'] = text  # as it would be written

@@ -11,7 +11,7 @@ import typing
 
 from certificates import Secured
 
-TOKEN_WITHIN = 10.0  # seconds
+TOKEN_WITHIN, DEFRAGMENTS_WITHIN = 10.0, 60.0  # seconds
 ASKS_AGAIN_AFTER = 0.2  # seconds
 
 
@@ -70,10 +70,12 @@ def fault_of(status: int, content: bytes) -> Unreached:
 
 
 class Member:
-    """One connection to a member, which is used by one thread at a time."""
+    """One connection to a member, which is used by one thread at a time. One that has patience is
+    for what may be asked twice: where no answer comes, as while the members choose another leader,
+    it is asked again for so many seconds."""
 
-    def __init__(self, reach: Reach, within: float):
-        self.reach = reach
+    def __init__(self, reach: Reach, within: float, patience: float = 0.0):
+        self.reach, self.patience = reach, patience
         where = reach.host, reach.port
         if reach.context:
             self.connection = http.client.HTTPSConnection(*where, timeout=within,
@@ -82,26 +84,26 @@ class Member:
             self.connection = http.client.HTTPConnection(*where, timeout=within)
 
     def ask(self, path: str, asked: dict) -> dict:
+        until = time.monotonic() + self.patience
+        while True:
+            try:
+                return self.ask_as_user(path, asked)
+            except (NoSpace, NoUser):
+                raise
+            except Unreached:
+                if time.monotonic() >= until:
+                    raise
+            time.sleep(ASKS_AGAIN_AFTER)
+
+    def ask_as_user(self, path: str, asked: dict) -> dict:
         """Asks, with a new token of the user where the last one is over."""
         try:
             return self.ask_once(path, asked)
         except NoUser:
             if not self.reach.user:
                 raise
-            self.take_token()
+            take_token(self.reach)
             return self.ask_once(path, asked)
-
-    def take_token(self) -> None:
-        """Takes a token for all connections. It costs the member a tenth of a second."""
-        self.reach.token = ''
-        asked = {'name': self.reach.user, 'password': self.reach.password}
-        within, self.connection.timeout = self.connection.timeout, TOKEN_WITHIN
-        try:
-            self.connection.close()
-            self.reach.token = self.ask_once('/v3/auth/authenticate', asked)['token']
-        finally:
-            self.connection.timeout = within
-            self.connection.close()
 
     def ask_once(self, path: str, asked: dict) -> dict:
         return json.loads(self.exchange('POST', path, json.dumps(asked)))
@@ -137,7 +139,7 @@ class Member:
 
     def defragment(self) -> None:
         """Gives the member's free pages back. It answers nothing meanwhile."""
-        self.ask('/v3/maintenance/defragment', {})
+        Member(self.reach, DEFRAGMENTS_WITHIN).ask('/v3/maintenance/defragment', {})
 
     def alarms(self) -> list[dict]:
         return self.ask('/v3/maintenance/alarm', {'action': 'GET'}).get('alarms', [])
@@ -146,22 +148,8 @@ class Member:
         self.ask('/v3/maintenance/alarm', {'action': 'DEACTIVATE', **alarm})
 
 
-class PatientMember(Member):
-    """A connection for what may be asked twice: where no answer comes, as while the members choose
-    another leader, it is asked again for so many seconds."""
-
-    def __init__(self, reach: Reach, within: float, patience: float):
-        super().__init__(reach, within)
-        self.patience = patience
-
-    def ask(self, path: str, asked: dict) -> dict:
-        until = time.monotonic() + self.patience
-        while True:
-            try:
-                return super().ask(path, asked)
-            except (NoSpace, NoUser):
-                raise
-            except Unreached:
-                if time.monotonic() > until:
-                    raise
-            time.sleep(ASKS_AGAIN_AFTER)
+def take_token(reach: Reach) -> None:
+    """Takes a token for all connections. It costs the member a tenth of a second."""
+    reach.token = ''
+    reach.token = Member(reach, TOKEN_WITHIN).ask_once(
+        '/v3/auth/authenticate', {'name': reach.user, 'password': reach.password})['token']

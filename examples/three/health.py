@@ -23,15 +23,15 @@ MOST_KEYS = 10  # of foreign values, that are named
 METRICS = 'text/plain; version=0.0.4'
 
 
-def gauges(name: str, label: str, values: dict) -> collections.abc.Iterator[str]:
-    """The lines of gauges by their own names, or of one by a label. What is not known has none."""
-    if label:
+def gauges(table: dict) -> collections.abc.Iterator[str]:
+    """The lines of gauges by their names, which may have a label. What is not known has none."""
+    for it, values in table.items():
+        name, _, label = it.partition(' ')
         yield f'# TYPE dispatch_room_{name} gauge'
-    for key, value in values.items():
-        if value is not None and label:
-            yield f'dispatch_room_{name}{{{label}="{key}"}} {value + 0}'
-        elif value is not None:
-            yield from (f'# TYPE dispatch_room_{key} gauge', f'dispatch_room_{key} {value + 0}')
+        for key, value in values.items() if label else [('', values)]:
+            if value is not None:
+                by = f'{{{label}="{key}"}}' if label else ''
+                yield f'dispatch_room_{name}{by} {value + 0}'
 
 
 class Starting:
@@ -81,9 +81,7 @@ class Health:
                 'copy': machine.tail.copy.number, 'copied': round(passed() - upkeep.copied, 1),
                 'uncopied': machine.player.uncopied, 'free': upkeep.free,
                 'changing': machine.player.change.number if machine.player.change else 0,
-                'days': upkeep.days,
-                'lost': upkeep.lost,
-                'waiting': len(machine.unanswered),
+                'days': upkeep.days, 'lost': upkeep.lost, 'waiting': len(machine.unanswered),
                 'ahead': machine.clocks.ahead(clocks.moment()), 'foreign': len(machine.foreign),
                 'foreign_keys': sorted(machine.foreign)[:MOST_KEYS],
                 'etcd': etcd._asdict() | {'warned': etcd.used > WARNED * etcd.quota > 0},
@@ -98,33 +96,28 @@ class Health:
 
     def metrics(self) -> bytes:
         """All that the machine's health has, in numbers."""
-        state, lines = self.state(), []
+        state = self.state()
         etcd, others = state['etcd'], state['others']
 
         def of_others(name: str) -> dict:
             return {it: by[name] for it, by in others.items()}
-        for name, label, values in (
-                ('', '', {
-                    'serving': not state['refuses'], 'record': state['record'],
-                    'records_behind': state['behind'], 'waiting': state['waiting'],
-                    'change_record': state['changing'],
-                    'copy_record': state['copy'], 'copy_age_seconds': state['copied'],
-                    'copy_failed': bool(state['uncopied']), 'lost_copies': state['lost'],
-                    'clock_ahead_seconds': state['ahead'], 'foreign_values': state['foreign'],
-                    'etcd_used_bytes': etcd['used'], 'etcd_file_bytes': etcd['file'],
-                    'etcd_quota_bytes': etcd['quota'], 'etcd_has_leader': etcd['has_leader'],
-                    'etcd_leads': etcd['leads']}),
-                ('free_bytes', 'folder', state['free']),
-                ('certificate_days', 'name', state['days']),
-                ('other_records_behind', 'machine', of_others('behind')),
-                ('other_silent_seconds', 'machine', of_others('silent')),
-                ('other_differs_from_record', 'machine', of_others('differs'))):
-            lines += gauges(name, label, values)
+        lines = [*gauges({
+            'serving': not state['refuses'], 'record': state['record'],
+            'records_behind': state['behind'], 'waiting': state['waiting'],
+            'change_record': state['changing'], 'copy_record': state['copy'],
+            'copy_age_seconds': state['copied'], 'copy_failed': bool(state['uncopied']),
+            'lost_copies': state['lost'], 'clock_ahead_seconds': state['ahead'],
+            'foreign_values': state['foreign'], 'etcd_used_bytes': etcd['used'],
+            'etcd_file_bytes': etcd['file'], 'etcd_quota_bytes': etcd['quota'],
+            'etcd_has_leader': etcd['has_leader'], 'etcd_leads': etcd['leads'],
+            'free_bytes folder': state['free'], 'certificate_days name': state['days'],
+            'other_records_behind machine': of_others('behind'),
+            'other_silent_seconds machine': of_others('silent'),
+            'other_differs_from_record machine': of_others('differs')})]
         lines.append('# TYPE dispatch_room_answers_total counter')
         lines += [f'dispatch_room_answers_total{{status="{status}"}} {count}'
                   for status, count in sorted(self.answers.items())]
-        lines += self.histogram()
-        return messages.answer_of(200, '\n'.join(lines) + '\n', METRICS)
+        return messages.answer_of(200, '\n'.join([*lines, *self.histogram(), '']), METRICS)
 
     def histogram(self) -> list[str]:
         name, total = 'dispatch_room_answer_seconds', 0

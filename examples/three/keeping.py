@@ -11,7 +11,7 @@ from channel import Channel
 from clocks import passed
 from entries import MOST_RECORDS, Entry, Place, Record, entry_behind
 from etcd import Member, Reach, Unreached
-from kept_list import AFTER_LIST, LIST, TXN, Found, KeptList
+from kept_list import AFTER_LIST, LIST, TXN, Found, KeptList, Lost
 from machine import BEATS_EVERY, Machine
 from playing import Question
 from said import say
@@ -156,7 +156,11 @@ class Keeping:
         found = kept_list.seen(known, answer)
         if not found:
             async with self.looking:
-                found = await asyncio.to_thread(self.kept.found, known, answer, is_latest)
+                try:
+                    found = await asyncio.to_thread(self.kept.found, known, answer, is_latest)
+                except Lost as error:
+                    self.machine.lose(error)
+                    raise Unreached(str(error)) from None
         return found
 
     async def read(self, by: Channel, is_latest: bool) -> Found:

@@ -117,19 +117,14 @@ def linked(known: Place | None, rows: list[tuple[str, bytes]]) -> tuple[list[Ent
 TXN = '/v3/kv/txn'
 
 
-def transaction(holds: list[dict], then: list[dict], otherwise: list[dict] = ()) -> dict:
-    return {'compare': holds, 'success': then, 'failure': list(otherwise)}
-
-
-def looks(known: Place, is_serializable: bool) -> list[dict]:
-    how = {'serializable': is_serializable}
-    return [get(span(HEAD), **how),
-            get(span(key_of(known.number + 1), AFTER_LIST), limit=MOST_READ, **how)]
+def transaction(holds: list[dict], then: list[dict]) -> dict:
+    return {'compare': holds, 'success': then}
 
 
 def reading(known: Place, is_latest: bool) -> dict:
     """Entries behind a place: those that the member has, or those that any has."""
-    return transaction([], looks(known, not is_latest))
+    how, behind = {'serializable': not is_latest}, span(key_of(known.number + 1), AFTER_LIST)
+    return transaction([], [get(span(HEAD), **how), get(behind, limit=MOST_READ, **how)])
 
 
 def keeping(known: Place, entry: Entry, revision: int) -> dict:
@@ -167,13 +162,12 @@ class KeptList:
     def __init__(self, member: Member):
         self.member = member
 
-    def change(self, holds: list[dict], then: list[dict], otherwise: list[dict] = ()) -> dict:
-        """A transaction of etcd."""
-        return self.member.ask(TXN, transaction(holds, then, otherwise))
+    def change(self, holds: list[dict], then: list[dict]) -> dict:
+        return self.member.ask(TXN, transaction(holds, then))
 
     # ---- reading
 
-    def found(self, known: Place, answer: dict, is_latest: bool = True) -> Found:
+    def found(self, known: Place, answer: dict, is_latest: bool) -> Found:
         """What looks gave. A place that is known and not in the list is shown, where most members
         were asked: one that was away may have less."""
         found = seen(known, answer)
@@ -206,8 +200,8 @@ class KeptList:
         return (f'the list ends at record {last.number}, and its head names another record '
                 f'{head.number}: companion.py mend')
 
-    def read(self, known: Place, is_latest: bool = False) -> Found:
-        return self.found(known, self.member.ask(TXN, reading(known, is_latest)), is_latest)
+    def read(self, known: Place) -> Found:
+        return self.found(known, self.member.ask(TXN, reading(known, True)), True)
 
     def entry(self, number: int) -> Entry | None:
         """The entry that ends with a record, where there is one."""
@@ -241,21 +235,21 @@ class KeptList:
 
     def keep(self, known: Place, moment: int, records: list) -> Found:
         """Puts an entry behind the place that is known; gives what stands there now."""
-        found = self.read(known, True)
+        found = self.read(known)
         if not found.is_all or found.entries:
             return found
         entry = entry_behind(known, moment, records)
         asked = keeping(known, entry, found.revision)
-        return kept(entry, self.member.ask(TXN, asked)) or self.read(known, True)
+        return kept(entry, self.member.ask(TXN, asked)) or self.read(known)
 
-    def append(self, record: Record, moment: int = 0) -> int | None:
+    def append(self, record: Record) -> int | None:
         """Puts a record at the list's end; gives its number, or none where there is no list. Where
         etcd is silent it is put again at the same place, so it is not there twice."""
         heads = [head_of(value) for _, value, _ in self.values(HEAD)]
         entry = self.entry(heads[0].number) if heads and heads[0] else None
         place = entry.place if entry else None
         while place:
-            found = self.keep(place, moment, [record])
+            found = self.keep(place, 0, [record])
             if found.fault:
                 raise Unreached(found.fault)
             for it in found.entries:

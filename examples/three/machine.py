@@ -1,15 +1,15 @@
 """One of the machines that are one room: what terminals ask of it, the list as far as it knows it,
 and the room that plays it."""
+import argparse
 import asyncio
 import collections.abc
-import dataclasses
 import secrets
 
 from asks import Ask, no_answer, numbered
 from clocks import OtherClocks, passed
 from copies import Copy
 from entries import Entry, Place, Record
-from kept_list import Found
+from kept_list import Found, Lost
 from messages import Request
 from playing import Player, Playing, Tail
 from said import say
@@ -27,29 +27,18 @@ HELD = 1.0  # seconds: a look that comes so late shows that this process was hel
 Doing = collections.abc.Callable[[], collections.abc.Awaitable]
 
 
-@dataclasses.dataclass(frozen=True)
-class Settings:
-    """What a machine is given."""
-    machine: int
-    of: int
-    deadline: float
-    trusts_clock: bool
-    log: bool
-    revisions: int  # that etcd keeps behind the newest
-    away_after: float  # seconds of another machine's silence, after which it is reported
-
-
 class Machine:
-    """One machine: its asks, the list as far as it is known, and the room that plays it."""
+    """One machine, by the words of its command line: its asks, the list as far as it is known, and
+    the room that plays it."""
 
-    def __init__(self, settings: Settings, how: Playing, copy: Copy, place: Place,
+    def __init__(self, settings: argparse.Namespace, how: Playing, copy: Copy, place: Place,
                  connections: Connections):
         self.settings = settings
         self.tail = Tail(copy, place)
         self.player = Player(how, self.tail)
         self.player.give, self.player.lose = self.give, self.lose_questions
         self.player.is_awaited = lambda entry: entry.machine == settings.machine
-        self.clocks = OtherClocks(settings.trusts_clock)
+        self.clocks = OtherClocks(settings.trust_clock)
         self.player.clock = self.clocks.middle
         self.connections = connections
         self.turns = Turns(settings.machine, settings.of)
@@ -63,6 +52,7 @@ class Machine:
         self.held = float('-inf')
         self.revision = self.seen = 0  # of etcd: the last one, and by which all entries are known
         self.stopped = self.full = self.fault = ''
+        self.lost: Lost | None = None
         self.foreign: set[str] = set()
         self.is_serving = False
         self.own: collections.abc.Callable[[str], bytes] = lambda _: b''
@@ -76,6 +66,11 @@ class Machine:
         for it in self.stopping, self.to_keep, self.to_ask, self.learned, self.player.changed:
             it.set()
         self.player.is_stopping = True
+
+    def lose(self, why: Lost) -> None:
+        """Stops where the list went back. The room leaves a copy with all that was answered."""
+        self.lost = why
+        self.stop()
 
     # ---- what terminals ask
 
@@ -137,10 +132,8 @@ class Machine:
 
     def give_up(self, ask: Ask) -> None:
         """Tells a terminal that there is no answer yet."""
-        if not ask.is_sent:
-            self.answer(ask, no_answer('no'))
-        else:
-            self.answer(ask, no_answer('perhaps' if ask.name in self.unkept else 'yes'))
+        is_open = self.lost or ask.name in self.unkept
+        self.answer(ask, no_answer('no' if not ask.is_sent else 'perhaps' if is_open else 'yes'))
 
     def give(self, record: Record, number: int, answer: bytes) -> None:
         """Gives the answer of a record to the terminal that waits for it."""
@@ -206,6 +199,8 @@ class Machine:
                 group.create_task(it())
             await self.answer_all(catch_up)
             hearing.cancel()
+        if self.lost:
+            raise self.lost
 
     async def answer_all(self, catch_up: Doing) -> None:
         """Answers who asks how it is at once, and terminals once the room has all that the list

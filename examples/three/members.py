@@ -25,7 +25,6 @@ class Machine:
     etcd: str
     peers: tuple[str, ...]  # of all members
     certificates: pathlib.Path | None = None
-    quota: int = QUOTA
 
     def url(self, address: str) -> str:
         return f'{"https" if self.certificates else "http"}://{address}'
@@ -40,7 +39,7 @@ class Machine:
                 'initial-advertise-peer-urls': peer, 'initial-cluster': ','.join(members),
                 'initial-cluster-token': 'dispatch-room', 'pre-vote': 'true',
                 'heartbeat-interval': str(HEARTBEAT), 'election-timeout': str(ELECTION),
-                'quota-backend-bytes': str(self.quota)} | self.secured()
+                'quota-backend-bytes': str(QUOTA)} | self.secured()
 
     def secured(self) -> dict[str, str]:
         """The certificates that its member has, and wants of companions and of members."""
@@ -78,10 +77,9 @@ class Machine:
                                    '--machine', str(self.number), *words)
 
 
-def machines(folder: pathlib.Path, ports: int, is_secured: bool = False,
-             quota: int = QUOTA) -> list[Machine]:
+def machines(folder: pathlib.Path, ports: int, is_secured: bool = False) -> list[Machine]:
     """Three on loopback: terminals come to the ports behind the first, etcd has the next tens."""
     peers = tuple(f'127.0.0.1:{ports + 20 + it}' for it in NUMBERS)
     return [Machine(it, folder / str(it), f'127.0.0.1:{ports + it}', f'127.0.0.1:{ports + 10 + it}',
-                    peers, folder / str(it) / 'certificates' if is_secured else None, quota)
+                    peers, folder / str(it) / 'certificates' if is_secured else None)
             for it in NUMBERS]

@@ -57,14 +57,6 @@ def bad_message() -> Refused:
     return Refused(400, 30, 'BadMessage')
 
 
-def one_of(fields: dict[str, list[str]], name: str) -> str | None:
-    """The value of a field that may stand once."""
-    values = fields.get(name, [])
-    if len(values) > 1:
-        raise bad_message()
-    return values[0] if values else None
-
-
 def fields_of(lines: list[str]) -> dict[str, list[str]]:
     if len(lines) > MOST_FIELDS:
         raise bad_message()
@@ -78,16 +70,16 @@ def fields_of(lines: list[str]) -> dict[str, list[str]]:
 
 
 def length_of_body(version: str, fields: dict[str, list[str]]) -> int:
-    length = one_of(fields, 'content-length')
-    if length is not None and not re.fullmatch('[0-9]+', length, re.ASCII):
+    length, *more = fields.get('content-length', ['0'])
+    if more or not re.fullmatch('[0-9]+', length, re.ASCII):
         raise bad_message()
     if 'transfer-encoding' in fields:
         raise Refused(501, 34, 'Coding')
     if version == 'HTTP/1.1' and 'expect' in fields:
         raise Refused(417, 33, 'Expectation')
-    if length is not None and (len(length) > 10 or int(length) > LONGEST_BODY):
+    if len(length) > 10 or int(length) > LONGEST_BODY:
         raise Refused(413, 32, 'BodyTooLong')
-    return int(length or 0)
+    return int(length)
 
 
 def is_last(version: str, fields: dict[str, list[str]]) -> bool:

@@ -281,13 +281,13 @@ class Player:
         except OSError as error:
             self.fail_copy(part, place, error)
             return
-        copies.drop_part(part)
+        shutil.rmtree(part, ignore_errors=True)
         self.uncopied = ''
         self.tail.begin_at(copy)
 
     def fail_copy(self, part: pathlib.Path, place: Place, error: OSError) -> None:
         """Deletes what a copy that failed has left, and has another one made later."""
-        copies.drop_part(part)
+        shutil.rmtree(part, ignore_errors=True)
         self.uncopied = f'no copy of record {place.number}: {error}'
         say(self.uncopied, 'copy')
         asyncio.get_running_loop().call_later(COPIES_AGAIN, setattr, self, 'wants_copy', True)

@@ -5,12 +5,12 @@ import json
 import time
 
 import words
-from etcd import Member, Unreached
+from etcd import Member, Unreached, take_token
 from keeping import TRY_EVERY
 from kept_list import (HEAD, ROOM, KeptList, delete, is_of, is_value, linked, put, span,
                        under)
 from upkeep import OUT, WORDS
-from words import WAITS, Refused, kept_list, patient_list
+from words import WAITS, Refused, kept_list
 
 PEERS = f'{ROOM}peers/'  # the addresses of members that are replaced
 HEARS = 10.0  # seconds in which a machine that runs reports on itself
@@ -23,11 +23,11 @@ sudo systemctl start dispatch-room-member dispatch-room-companion
 
 
 def wait_for_silence(kept: KeptList, machines: collections.abc.Iterable[str]) -> None:
-    """Refuses where one of the machines goes on reporting on itself."""
+    """Refuses where one of the machines goes on reporting on itself, while etcd answers."""
     def heard() -> set[tuple[str, int]]:
         return {(key, revision) for key, _, revision in kept.values(WORDS) if key in machines}
-    before, until = heard(), time.monotonic() + HEARS
-    while time.monotonic() < until:
+    before = heard()
+    for _ in range(round(HEARS / TRY_EVERY)):
         time.sleep(TRY_EVERY)
         for number, _ in heard() - before:
             raise Refused(f'machine {number} is not away')
@@ -43,7 +43,7 @@ def leave_out(given: argparse.Namespace) -> None:
 
 def replace(given: argparse.Namespace) -> None:
     """Has etcd let a machine's member go, and take one that has nothing in its place."""
-    kept, name, key = patient_list(given), f'm{given.number}', f'{PEERS}{given.number}'
+    kept, name, key = kept_list(given), f'm{given.number}', f'{PEERS}{given.number}'
     wait_for_silence(kept, {str(given.number)})
     ask = kept.member.ask
     members = ask('/v3/cluster/member/list', {})['members']
@@ -72,7 +72,7 @@ def drop_list(given: argparse.Namespace) -> None:
 def mend(given: argparse.Namespace) -> None:
     """Has the list end with the last of its entries that stand one behind the other, and deletes
     what is none of them; but not where a machine that counts has played more."""
-    kept = patient_list(given)
+    kept = kept_list(given)
     revision = max((it for _, _, it in kept.values(HEAD)), default=0)
     rows = dict(kept.rows())
     entries, foreign = linked(None, list(rows.items()))
@@ -95,7 +95,7 @@ def user(given: argparse.Namespace) -> None:
     """Makes the user whose name and password are given, and has etcd take nothing else."""
     member = Member(words.reach_of(given), WAITS)
     try:
-        member.take_token()
+        take_token(member.reach)
     except Unreached:  # none is wanted yet
         for path, asked in (
                 ('user/add', {'name': given.user, 'password': member.reach.password}),

@@ -38,11 +38,6 @@ def until_done(command: Command) -> None:
         time.sleep(0.5)
 
 
-def begin(machine: Machine, room: pathlib.Path) -> None:
-    """Makes a room's file a machine's first copy."""
-    until_done(machine.begin(room))
-
-
 def secure(three: list[Machine], folder: pathlib.Path) -> None:
     """Makes certificates where there are none."""
     if three[0].certificates and not three[0].certificates.exists():
@@ -89,7 +84,7 @@ def serve(three: list[Machine], words: argparse.Namespace) -> None:
             until_done(three[0].companion_does('user'))
         for it in three:
             if not copies_in(it.folder / 'room'):
-                begin(it, room)
+                until_done(it.begin(room))
         with running([it.companion('--program', words.program) for it in three]) as mend:
             print('terminals:', *(it.terminals for it in three), flush=True)
             while True:

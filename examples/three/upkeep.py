@@ -13,8 +13,8 @@ from clocks import passed
 from comparison import Comparison
 from entries import Record
 from etcd import Member, Reach, Sizes, Unreached
-from keeping import ETCD_WITHIN
-from kept_list import OUTCOMES, ROOM, KeptList, put
+from keeping import ETCD_WITHIN, pause
+from kept_list import OUTCOMES, ROOM, KeptList, Lost, put
 from machine import Machine
 from said import say
 
@@ -65,13 +65,11 @@ class Upkeep:
         while not self.machine.is_stopping:
             try:
                 await asyncio.to_thread(self.tend)
+            except Lost as error:
+                self.machine.lose(error)
             except (Unreached, OSError) as error:
                 say(error)
-            try:
-                async with asyncio.timeout(REPORTS_EVERY):
-                    await self.machine.stopping.wait()
-            except TimeoutError:
-                pass
+            await pause(self.machine.stopping, REPORTS_EVERY)
 
     def tend(self) -> None:
         """One round of it, on a connection of its own."""
@@ -186,20 +184,20 @@ class Upkeep:
         entry = self.kept.entry(copy.number)
         if entry and entry.place.digest == copy.digest:
             self.kept.change([], [put(f'{COPIES}{self.me}', '%d %d' % numbers)])
-            self.drop(self.kept)
+            self.drop()
         self.reported = numbers
 
-    def drop(self, kept: KeptList, is_urgent: bool = False) -> None:
+    def drop(self, is_urgent: bool = False) -> None:
         """Lets go of what each machine that counts has in two copies, up to one that was as
         another's, or where space is short in any: so one whose newest is damaged, or whose room is
         found to differ, plays on from that before."""
-        out = {int(key) for key, _, _ in kept.values(OUT) if key.isdigit()}
-        reported = reported_copies(kept)
+        out = {int(key) for key, _, _ in self.kept.values(OUT) if key.isdigit()}
+        reported = reported_copies(self.kept)
         counted = set(range(1, self.machine.settings.of + 1)) - out
         if counted and counted <= reported.keys():
             first = min(reported[it][0 if is_urgent else 1] for it in counted)
             revisions = 0 if is_urgent else self.machine.settings.revisions
-            self.compact(kept, kept.drop_before(first) - revisions)
+            self.compact(self.kept.drop_before(first) - revisions)
 
     def report_outcome(self, number: int, outcome: bytes) -> None:
         """Reports what became of a change."""
@@ -212,10 +210,10 @@ class Upkeep:
 
     # ---- etcd's quota
 
-    def compact(self, kept: KeptList, revision: int) -> None:
+    def compact(self, revision: int) -> None:
         if revision > 0:
             try:
-                kept.member.compact(revision)
+                self.kept.member.compact(revision)
             except Unreached as error:
                 if 'compacted' not in str(error):
                     raise
@@ -230,12 +228,12 @@ class Upkeep:
             return
         if passed() - self.compacted > COMPACTS_EVERY:
             self.compacted = passed()
-            self.compact(self.kept, machine.revision - machine.settings.revisions)
+            self.compact(machine.revision - machine.settings.revisions)
         machine.full = 'etcd is nearly full' if used > FULL * quota or alarms else ''
         if used > WARNED * quota or alarms:
             say(f'etcd has {used} bytes in use and a quota of {quota}', 'quota')
             machine.player.wants_copy = passed() - self.copied > COPIES_APART
-            self.drop(self.kept, True)
+            self.drop(True)
         if alarms or file > WARNED * quota and used < WASTED * file and self.is_my_slot():
             self.make_room(alarms, quota)
 
@@ -247,14 +245,8 @@ class Upkeep:
     def make_room(self, alarms: list[dict], quota: int) -> None:
         """Gives free pages of the member back, and lets etcd be written again once it has space."""
         member = self.kept.member
-        self.compact(self.kept, self.machine.revision)
-        within, member.connection.timeout = member.connection.timeout, 60.0
-        try:
-            member.connection.close()
-            member.defragment()
-        finally:
-            member.connection.close()
-            member.connection.timeout = within
+        self.compact(self.machine.revision)
+        member.defragment()
         self.sizes = member.sizes()
         say(f'etcd has given space back: {self.sizes.file} bytes are left', 'space')
         if self.sizes.file < FULL * quota:

@@ -5,12 +5,15 @@ import ipaddress
 import pathlib
 
 from certificates import Secured
-from etcd import Member, PatientMember, Reach
+from etcd import Member, Reach
 from keeping import ETCD_WITHIN
 from kept_list import KeptList
 
 COPIES = pathlib.Path('/var/lib/dispatch-room-three/room')
 WAITS = 60.0  # seconds that a command waits for the machines
+FILES = {'password': "a file that has the user's password",
+         'authority': "TLS: of the member's certificate",
+         'certificate': "TLS: the companion's own", 'key': 'TLS: the key of that'}
 
 
 class Refused(Exception):
@@ -37,19 +40,13 @@ def loopback(text: str) -> tuple[str, int]:
     return host, port
 
 
-def path_words(named: dict) -> dict:
-    return {'type': pathlib.Path, 'metavar': 'FILE'} | named
-
-
 def add_etcd(parser: argparse.ArgumentParser) -> None:
     """How the machine's member of etcd is reached."""
     parser.add_argument('--etcd', metavar='ADDRESS', type=address, default='127.0.0.1:2379',
                         help="the machine's member of etcd (%(default)s)")
-    parser.add_argument('--authority', **path_words({'help': "TLS: of the member's certificate"}))
-    parser.add_argument('--certificate', **path_words({'help': "TLS: the companion's own"}))
-    parser.add_argument('--key', **path_words({'help': 'TLS: the key of that'}))
     parser.add_argument('--user', default='', help='of etcd')
-    parser.add_argument('--password', **path_words({'help': 'a file that has the password'}))
+    for name, text in FILES.items():
+        parser.add_argument(f'--{name}', metavar='FILE', type=pathlib.Path, help=text)
 
 
 def reach_of(given: argparse.Namespace) -> Reach:
@@ -64,12 +61,8 @@ def reach_of(given: argparse.Namespace) -> Reach:
     return Reach(host, port, secured, given.user, password)
 
 
-def kept_list(given: argparse.Namespace) -> KeptList:
-    return KeptList(Member(reach_of(given), ETCD_WITHIN))
-
-
-def patient_list(given: argparse.Namespace) -> KeptList:
-    return KeptList(PatientMember(reach_of(given), ETCD_WITHIN, WAITS))
+def kept_list(given: argparse.Namespace, patience: float = WAITS) -> KeptList:
+    return KeptList(Member(reach_of(given), ETCD_WITHIN, patience))
 
 
 def add_program(parser: argparse.ArgumentParser) -> None:
@@ -133,8 +126,6 @@ def words_of(line: list[str], about: str, names: collections.abc.Iterable[str]
     for it in 'leave-out', 'replace':
         found[it].add_argument('number', metavar='N', type=int, choices=range(1, 10))
     given = parser.parse_args(line)
-    if isinstance(given.etcd, str):
-        given.etcd = address(given.etcd)
     if bool(given.authority) != bool(given.certificate) or bool(given.key) != bool(given.authority):
         parser.error('TLS wants --authority, --certificate and --key together')
     return given
