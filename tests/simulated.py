@@ -288,6 +288,11 @@ class Room:
         del self.waiting[:len(asked)]
         self.take_all(found)
 
+    def fail(self):
+        """The program ends."""
+        self.is_over = True
+        self.take_all([])
+
     def look(self):
         if self.is_over:
             raise played_room.Ended('the room ended')

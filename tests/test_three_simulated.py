@@ -162,7 +162,7 @@ class Run:
 
     async def disturb(self):
         number = self.chance.choice(NUMBERS)
-        kind = self.chance.choice(['kill', 'stop', 'cut', 'clock', 'full', 'stray'])
+        kind = self.chance.choice(['kill', 'stop', 'cut', 'clock', 'full', 'stray', 'room'])
         if kind in ('kill', 'stop') and number not in self.three.running:
             return
         self.faults[kind] += 1
@@ -188,6 +188,8 @@ class Run:
         elif kind == 'stray':
             with contextlib.suppress(simulated.etcd.Unreached):
                 self.put_stray()
+        elif kind == 'room' and number in self.three.machines:
+            self.three.machines[number].player.room.fail()
         elif kind == 'full':
             self.three.full.add(number)
             await asyncio.sleep(lasts)

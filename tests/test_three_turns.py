@@ -14,8 +14,10 @@ from room import PATIENCE, TOP, TestCase
 sys.path.insert(0, str(TOP / 'examples' / 'three'))
 import channel  # noqa: E402
 import copies  # noqa: E402
+import entries  # noqa: E402
 import etcd  # noqa: E402
 import played_room  # noqa: E402
+import playing  # noqa: E402
 import turns  # noqa: E402
 
 WHOLE = b'HTTP/1.1 200 OK\r\nContent-Length: 2\r\n\r\n{}'
@@ -120,6 +122,24 @@ class Wires(TestCase):
             return printed
         with unittest.mock.patch.object(channel, 'CONNECTS_WITHIN', PATIENCE):
             self.check('what it returns', asyncio.run(ask()), ['etcd: timed out', {}])
+
+
+class Tails(TestCase):
+    def left(self, sent):
+        """Which of three entries stay, as a copy behind the second comes, where the room has been
+        handed so many."""
+        first = entries.first_entry('0' * 64)
+        tail = playing.Tail(copies.Copy(self.folder, 0, '', '', ''), first.place)
+        for it in range(3):
+            tail.add(entries.entry_behind(tail.place, it, [entries.Record(f'a{it}', b'')]))
+        tail.begin_at(copies.Copy(self.folder, 2, '', '', ''), sent)
+        return list(tail.entries)
+
+    def test_copies(self):
+        """A copy may come late, as the room has ended since and begun again from an older one: what
+        it is still to be handed stays."""
+        for sent, left in (3, [3]), (2, [3]), (1, [2, 3]), (0, [1, 2, 3]):
+            self.check(f'handed {sent}', self.left(sent), left)
 
 
 class Opening(TestCase):

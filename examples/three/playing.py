@@ -71,10 +71,11 @@ class Tail:
         self.entries[entry.first] = entry
         self.place = entry.place
 
-    def begin_at(self, copy: Copy) -> None:
-        """Drops the entries that a new copy holds."""
-        self.copy = copy
-        self.entries = {first: it for first, it in self.entries.items() if it.number > copy.number}
+    def begin_at(self, copy: Copy, sent: int) -> None:
+        """Drops the entries that a new copy holds, and the room has been handed: it may have ended
+        since, and have begun again from an older copy."""
+        self.copy, held = copy, min(copy.number, sent)
+        self.entries = {first: it for first, it in self.entries.items() if it.number > held}
 
 
 class Player:
@@ -283,7 +284,7 @@ class Player:
             return
         shutil.rmtree(part, ignore_errors=True)
         self.uncopied = ''
-        self.tail.begin_at(copy)
+        self.tail.begin_at(copy, self.sent)
 
     def fail_copy(self, part: pathlib.Path, place: Place, error: OSError) -> None:
         """Deletes what a copy that failed has left, and has another one made later."""
