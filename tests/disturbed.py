@@ -91,7 +91,9 @@ class Faults:
         return lambda: self.machines.signal_all(held, signal.SIGCONT)
 
     def clock(self, number):
-        self.machines.shift(number, wall=self.chance.choice(WALLS))
+        """A clock is wrong, once what was wrong before is heard to be right."""
+        if self.machines.are_clocks_right():
+            self.machines.shift(number, wall=self.chance.choice(WALLS))
         return lambda: self.machines.shift(number)
 
     def sleep(self, number):

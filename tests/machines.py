@@ -20,6 +20,7 @@ from room import PATIENCE, PROGRAM, TOP, held_port
 
 THREE = TOP / 'examples' / 'three'
 sys.path.insert(0, str(THREE))
+import clocks  # noqa: E402
 import etcd  # noqa: E402
 import kept_list  # noqa: E402
 import members  # noqa: E402
@@ -108,6 +109,18 @@ class Machines:
         part = self.folder / 'shift.part'
         part.write_text(f'{wall} {self.slept[number]}')
         part.rename(self.shift_file(number))
+
+    def set_right(self, number):
+        """Sets a machine's clock right, and waits until the others have heard it: of three clocks
+        only one may be wrong."""
+        self.shift(number)
+        self.until(self.are_clocks_right, f'the clock of machine {number} is heard')
+
+    def are_clocks_right(self):
+        """Whether the last clocks that machines heard of one another are right."""
+        heard = [of.get('clock') for it in self.machines
+                 for of in self.health(it).get('others', {}).values()]
+        return all(it is None or abs(it - time.time()) < clocks.APART / 2 for it in heard)
 
     def start(self, kind, number):
         machine = self.machines[number]

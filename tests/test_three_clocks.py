@@ -46,7 +46,7 @@ class Clocks(ThreeTestCase):
                 self.serial += 1
                 self.check_moment(self.answered(it, call(self.serial))[0])
                 self.check_comes('a question too', lambda: self.is_of_today(it), True)
-            self.machines.shift(number)
+            self.machines.set_right(number)
             self.machines.wait_for(number)
         for wall in [-3600, 3600, -TEN_YEARS, 86400] * 3:
             self.machines.shift(2, wall=wall)

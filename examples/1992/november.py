@@ -146,7 +146,7 @@ def machines(program: str, folder: pathlib.Path, ports: int, world):
         for it in found:
             start(it.number, it.member())
         for it in found:
-            three.begin(it, folder / 'first.db')
+            three.until_done(it.begin(folder / 'first.db'))
             start(it.number, it.companion('--program', program))
         yield [it.terminals for it in found], kill
     finally:
