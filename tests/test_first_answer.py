@@ -3,8 +3,6 @@ answers, the proved program's answers, which alone come on standard output, and 
 nothing has changed. An example of the kit stands for the dry run, above a library of one
 function."""
 # needs: python3
-import importlib.machinery
-import importlib.util
 import os
 import pathlib
 import re
@@ -15,6 +13,7 @@ import sys
 import time
 from unittest import mock
 
+from command_modules import module_of
 from room import DRY_RUN, PATIENCE, TOP, TestCase
 
 sys.path.insert(0, str(TOP / 'tools'))
@@ -50,14 +49,6 @@ look.give_back()
 print('ready', flush=True)
 sys.stdout.write(open(0).read())
 '''
-
-
-def builder():
-    """The module of tools/build."""
-    loader = importlib.machinery.SourceFileLoader('tools_build', str(TOP / 'tools' / 'build'))
-    module = importlib.util.module_from_spec(importlib.util.spec_from_loader('tools_build', loader))
-    loader.exec_module(module)
-    return module
 
 
 class Repository(TestCase):
@@ -201,7 +192,7 @@ class Words(TestCase):
                 (['dispatch_room', '--run', '--help'], ('dispatch_room', ['--help']), False),
                 ([MAIN, '--run'], (MAIN, []), True),
                 ([MAIN], None, False)]:
-            tool, made = builder(), mock.DEFAULT
+            tool, made = module_of('tools', 'build'), mock.DEFAULT
             with mock.patch.multiple(tool, build=made, run=made, FirstLook=made,
                                      is_fed=lambda: True) as called, (
                     mock.patch.object(sys, 'argv', ['build', *words])):

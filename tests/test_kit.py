@@ -2,8 +2,6 @@
 names, and which Debian packages are missing where they can't be installed."""
 # needs: python3 bash
 import contextlib
-import importlib.machinery
-import importlib.util
 import io
 import os
 import pathlib
@@ -13,20 +11,13 @@ import subprocess
 import sys
 from unittest import mock
 
+from command_modules import module_of
 from room import TOP, TestCase
 
 sys.path.insert(0, str(TOP / 'tools'))
 import kit  # noqa: E402
 
 NAMED = re.search(r'rattle-kit-\w+', (TOP / 'README.md').read_text())[0]
-
-
-def runner():
-    """The module of tests/run."""
-    loader = importlib.machinery.SourceFileLoader('tests_run', str(TOP / 'tests' / 'run'))
-    module = importlib.util.module_from_spec(importlib.util.spec_from_loader('tests_run', loader))
-    loader.exec_module(module)
-    return module
 
 
 class Kit(TestCase):
@@ -74,7 +65,7 @@ class Packages(TestCase):
 
     def setUp(self):
         super().setUp()
-        self.run = runner()
+        self.run = module_of('tests', 'run')
         self.modules = {}
         for name, needs in [('one', 'python3 nginx'), ('two', 'python3'), ('three', 'etcd nginx')]:
             file = pathlib.Path(self.folder) / f'test_{name}.py'
