@@ -8,6 +8,10 @@
 //   unseen   a tap on the large button would end an order that no page has shown, and that has not
 //            begun
 //   shown    the same of an order that a page has shown
+//   misread  the job is not that of the order as the page last heard it, or not all of it is marked
+//            that came since the page had the order, or since the crew said that it saw it
+//   untold   the page has just heard that the desk took an order away, and does not say so
+//   false    it says so of one that the desk did not take away
 //
 // node crew_orders.js TABLE DEPTH EVERY [before]: TABLE is the table of buttons as JSON, a member
 // for each status, with 'normal', 'skipped', 'stays' or 'wrong' for each button. Of the first EVERY
@@ -19,7 +23,7 @@
 
 import { readFileSync } from 'node:fs';
 import { after, expected, isWithheld } from './crew-buttons.js';
-import { buttonsOf, heard, nowOf } from './crew-view.js';
+import { buttonsOf, heard, nowOf, saw, view as viewOf } from './crew-view.js';
 
 const BUTTONS = ['mobile', 'scene', 'leave', 'hospital', 'return', 'home', 'position'];
 const SETS = { scene: 3, leave: 4, hospital: 5, return: 6, home: 1 };
@@ -29,7 +33,8 @@ const table = JSON.parse(readFileSync(file, 'utf8'));
 for (const it of [Date, performance]) it.now = () => { throw new Error('the page reads a clock'); };
 
 // ---- the room. A vehicle: status, its order (null: none), the last order, whether that is
-// acknowledged or has begun otherwise
+// acknowledged or has begun otherwise, how many calls its incident has, and the orders that the
+// desk took away. Each call makes the incident one class graver.
 
 /** What a report that was not sent before comes to, and what the vehicle is at then. */
 function judged(vehicle, { button, order }) {
@@ -49,20 +54,30 @@ function judged(vehicle, { button, order }) {
   return { outcome, then: { ...begun, status: SETS[button], order: left } };
 }
 
-const ordered = (it) => ({ status: 2, order: it.last + 1, last: it.last + 1, isAcknowledged: false,
-  hasBegun: false });
+const ordered = (it) => ({ ...it, status: 2, order: it.last + 1, last: it.last + 1,
+  isAcknowledged: false, hasBegun: false, calls: 1 });
 const at = (status) => (it) => ({ ...it, status, order: null });
+const stoodDown = (it) => ({ ...at(6)(it), taken: [...it.taken, it.order] });
 
 // What a desk does, at which statuses.
 const DESK = [
-  ['order', [1, 6], ordered], ['changed order', [2], ordered], ['stand-down', [2], at(6)],
-  ['off duty', [1, 6], at(0)], ['on duty', [0], at(1)], ['offer', [1, 6], at(7)],
-  ['withdrawn', [7], at(1)],
+  ['order', [1, 6], ordered], ['changed order', [2], (it) => ordered(stoodDown(it))],
+  ['stand-down', [2], stoodDown], ['off duty', [1, 6], at(0)], ['on duty', [0], at(1)],
+  ['offer', [1, 6], at(7)], ['withdrawn', [7], at(1)],
 ];
 
-/** What /order answers. */
-const contentOf = ({ status, order }) =>
-  ({ status, order: order === null ? null : { order }, post: null });
+const MOST_CALLS = 3;
+const classAfter = (calls) => 4 - calls;
+// The calls in the order of their notes: the second comes from a position before the first's.
+const notedOf = (calls) => [2, 1, 3].filter((it) => it <= calls);
+const noteOf = (order, call) => `call ${call} of the incident of order ${order}`;
+
+/** What /job answers. */
+function contentOf({ status, order, calls }) {
+  if (order === null) return { order: null, post: null, status };
+  return { class: classAfter(calls), notes: notedOf(calls).map((it) => noteOf(order, it)),
+    order: { class: classAfter(1), order }, post: null, status };
+}
 
 /** A function that finds once what it has to of a vehicle, whatever the numbers of its orders. */
 function once(found) {
@@ -79,14 +94,8 @@ function once(found) {
 
 const buttonsThen = once(buttonsOf);
 
-/** What view() in crew-view.js gives. */
-function view(kept, box) {
-  const now = nowOf(kept, box);
-  return { ...now, buttons: buttonsThen(now) };
-}
-
-const NOW = { open: (kept) => kept, changed: (it) => it, heard, nowOf, view, isWithheld,
-  more: () => [] };
+const NOW = { open: (kept) => kept, changed: (it) => it, heard, nowOf, isWithheld, saw,
+  view: (kept, box) => viewOf(kept, box, buttonsThen), more: () => [] };
 
 const lastAnswered = (messages) => messages.filter((it) => it.answer).at(-1);
 
@@ -99,7 +108,7 @@ const BEFORE = {
       room: { ...it.room, status: last.answer.content?.status ?? it.room.status } };
   },
   heard: (before, room, messages) => ({ room, answered: lastAnswered(messages)?.number ?? 0,
-    greatest: Math.max(before.greatest, room.order?.order ?? 0) }),
+    greatest: Math.max(before?.greatest ?? 0, room.order?.order ?? 0) }),
   view({ room, greatest }, messages) {
     const last = Math.max(greatest, ...messages.map((it) => it.content.order));
     const isAcknowledged = messages.some(({ content, answer }) => content.button === 'mobile'
@@ -127,7 +136,7 @@ const page = which === 'before' ? BEFORE : NOW;
 // ---- a state: the vehicle, the greatest number of its reports, the outbox, the request that is
 // still under way though nobody waits for it, the page that one looks at, and what is kept, which
 // another tab may have heard later. With what a page heard goes its twin: the vehicle as it would
-// be had the desk done nothing since.
+// be had the desk done nothing since; its order before, and how much of the job the crew has seen.
 
 /** A report reaches the room: the state then, and the answer. A repeated one, whose answer was
     lost, gets its first answer. */
@@ -148,11 +157,24 @@ function arrive(state, number) {
     box: state.box.map((it) => (it === message ? { ...it, got } : it)) } };
 }
 
-const hear = (state, { page: before } = state.tab) => ({ twin: state.vehicle, from: state.next,
-  page: page.heard(before, contentOf(state.vehicle), state.box) });
+/** Of a new order the crew has seen its calls, and the class that it was given with. */
+function knownOf({ order, calls }, before) {
+  return before?.order === order ? before : { order, calls, classed: 1 };
+}
+
+const hear = ({ vehicle, box, next }, before) => ({ twin: vehicle, from: next,
+  had: before.twin.order, known: knownOf(vehicle, before.known),
+  page: page.heard(before.page, contentOf(vehicle), box) });
+
+/** The crew says that it saw the job. */
+function sawHere(state) {
+  const { page: before, twin: { order, calls } } = state.tab;
+  const tab = { ...state.tab, page: page.saw(before), known: { order, calls, classed: calls } };
+  return { ...state, tab, kept: tab };
+}
 
 function heardHere(state) {
-  const tab = hear(state);
+  const tab = hear(state, state.tab);
   return { ...state, tab, kept: tab };
 }
 
@@ -215,6 +237,10 @@ function* events(state, shown, buttons) {
       yield [name, { ...state, vehicle: act(state.vehicle), isShown: false }];
     }
   }
+  if (state.vehicle.order !== null && state.vehicle.calls < MOST_CALLS) {
+    yield ['a call', { ...state, vehicle: { ...state.vehicle, calls: state.vehicle.calls + 1 } }];
+  }
+  if (shown.job?.hasNews) yield ['seen', sawHere(state)];
   yield ['order heard', { ...heardHere(state), isFresh: true }];
   yield ['other tab: order heard', { ...state, kept: hear(state, state.kept) }];
   yield ['reload', { ...state, tab: { ...state.kept, page: page.open(state.kept.page) } }];
@@ -264,11 +290,38 @@ function isDropping(state, shown) {
   return judged(before, content).then.order === null && !before.hasBegun;
 }
 
+/** Whether the job is another than the page heard, or not marked as it should be. */
+function isMisread({ tab: { twin, known: { order, calls, classed } } }, { order: shown, job }) {
+  if (shown === null) return job !== null;
+  const now = classAfter(twin.calls);
+  const notes = notedOf(twin.calls).map((it) => [noteOf(shown, it), it > calls]);
+  const seen = job.notes.map((it) => [it.text, it.isNew]);
+  return order !== shown || job.order !== shown || job.class !== now
+    || job.isClassNew !== (classed < twin.calls) || String(seen) !== String(notes);
+}
+
+/** Whether the desk took away the order that the page had, which no button since may have ended,
+    nor a Home that is under way, or was sent and then withheld: that does not lead to returning. */
+function isTakenNow({ tab: { had, twin }, box, isFresh }) {
+  const mayEnd = ({ content: { button, order }, isTried, answer }) =>
+    (order >= had && (button === 'return' || button === 'home'))
+    || (isTried && twin.status !== 6 && (answer?.isWithheld || (!answer && button === 'home')));
+  return isFresh && twin.taken.includes(had) && !box.some(mayEnd);
+}
+
 function faultsOf(state, shown) {
-  const found = isUntrue(state, shown) ? ['untrue'] : [];
-  const isTried = state.box.some((it) => it.isTried && !it.answer?.ok);
-  if (shown.isBehind && state.isFresh && !isTried) found.push('behind');
-  return isDropping(state, shown) ? [...found, state.isShown ? 'shown' : 'unseen'] : found;
+  const { tab: { had, twin }, box, isFresh } = state;
+  const isTried = box.some((it) => it.isTried && !it.answer?.ok);
+  const isOfJob = page === NOW;
+  const found = [
+    ['untrue', isUntrue(state, shown)],
+    ['behind', shown.isBehind && isFresh && !isTried],
+    [state.isShown ? 'shown' : 'unseen', isDropping(state, shown)],
+    ['misread', isOfJob && isMisread(state, shown)],
+    ['untold', isOfJob && isTakenNow(state) && shown.taken !== had],
+    ['false', isOfJob && shown.taken && !twin.taken.includes(shown.taken)],
+  ];
+  return found.filter(([, is]) => is).map(([name]) => name);
 }
 
 /** What decides all that comes: of what is answered only where it leaves each page, and orders from
@@ -276,8 +329,12 @@ function faultsOf(state, shown) {
 function keyOf(state) {
   const { box, vehicle: { last } } = state;
   const answered = box.filter((it) => it.answer);
-  const vehicle = ({ status, order, isAcknowledged, hasBegun }) =>
-    [status, order && order - last, isAcknowledged, hasBegun];
+  const vehicle = ({ status, order, isAcknowledged, hasBegun, calls }) =>
+    [status, order && order - last, order && calls, isAcknowledged, hasBegun];
+  const job = ({ page: { room: { order, status }, seen, taken }, twin: { calls }, known }) =>
+    [order && [order.order - last, seen?.class, seen?.notes.length, calls, known.calls,
+      known.classed], taken && [taken - last, status],
+    order && state.vehicle.taken.includes(order.order)];
   const lastAnswer = answered.findLast((it) => it.answer.ok)?.number;
   const strayOf = (it) => it?.number > lastAnswer && it.content.order - last;
   const one = (it) => {
@@ -285,7 +342,7 @@ function keyOf(state) {
     return [now.status, now.order && now.order - last, now.isAcknowledged, now.isBehind,
       now.last - last, it.page.acknowledged === last, strayOf(it.page.stray),
       it.page.tried > answered.at(-1).number,
-      ...page.more(it.page, answered), it.twin.last - last, ...vehicle(it.twin)];
+      ...page.more(it.page, answered), it.twin.last - last, ...vehicle(it.twin), ...job(it)];
   };
   const message = ({ content: { button, order }, isTried, got }) =>
     [button, order - last, isTried, got?.outcome, got?.status];
@@ -293,7 +350,9 @@ function keyOf(state) {
     button === 'mobile' && order === last && ACTS.includes(got?.outcome);
   const latest = box.at(-1);
   const isSince = latest.number >= state.tab.from && latest.answer?.content?.status;
-  return [vehicle(state.vehicle), state.isShown, state.isFresh, isSince, one(state.kept),
+  const { had, twin } = state.tab;
+  return [vehicle(state.vehicle), state.isShown, state.isFresh && [twin.taken.includes(had)],
+    isSince, one(state.kept),
     state.tab === state.kept || one(state.tab),
     box.filter((it) => !it.answer).map(message), '/', state.stray && message(state.stray),
     state.stray?.number < state.greatest, answered.some(isMobile),
@@ -305,14 +364,13 @@ function beginning(status, button, isAcknowledged = true) {
   const last = status === 2 && !isAcknowledged ? 2 : 1;
   const hasOrder = status >= 2 && status <= 5;
   const vehicle = { status, order: hasOrder ? last : null, last, isAcknowledged,
-    hasBegun: isAcknowledged };
+    hasBegun: isAcknowledged, calls: 1, taken: [] };
   const got = { outcome: 'normal', status: last === 2 ? 1 : status };
   const mobile = { number: 1, content: { button: 'mobile', order: 1 }, isTried: true,
     got: { outcome: 'normal', status: 2 } };
   const box = [mobile, { ...mobile, number: 2, content: { button, order: 1 }, got }]
     .map((it) => ({ ...it, answer: { ok: true, content: it.got } }));
-  const tab = { page: { room: { order: null }, last, acknowledged: 0, answered: 0,
-    greatest: last } };
+  const tab = { twin: vehicle, known: null, page: null };
   return heardHere({ vehicle, greatest: 2, box, next: 3, stray: null, tab, isShown: hasOrder,
     isFresh: true });
 }

@@ -14,6 +14,7 @@ import kept_list
 WALLS = -10 * 365 * 86_400, -3600, -65, 65, 86_400, 73 * 365 * 86_400  # seconds, the last to 2099
 FOLDERS = 'room', 'work', 'etcd'
 STARTS_EVERY = 0.5  # seconds until what ended is started again
+NOTICED = 4.0  # seconds until a companion says that its member or its room ended
 
 
 def small(folder, size):
@@ -51,6 +52,7 @@ class Faults:
                 self.some()
                 if self.chance.random() < 0.5:
                     self.machines.wait_for_all()
+            time.sleep(NOTICED)  # what the last one ended is started again
             self.machines.wait_for_all()
         finally:
             self.over.set()

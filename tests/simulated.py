@@ -319,11 +319,8 @@ class Connections:
             if not it.done():
                 it.set_result(b'')
 
-    def listen_no_more(self):
-        self.answering = None
-
     async def end(self):
-        pass
+        self.answering = None
 
 
 class Companions:
@@ -390,7 +387,7 @@ class Companions:
 
     async def run(self, number):
         """As companion.run, and again where it ends."""
-        given = types.SimpleNamespace(folder=self.folder / str(number), machine=number, of=3,
+        given = types.SimpleNamespace(folder=self.folder / str(number), machine=number,
                                       deadline=3.0, trust_clock=False, log=False,
                                       revisions=10_000, away_after=1e9)
         while True:
@@ -399,14 +396,13 @@ class Companions:
                 copy, place = companion.copy_in_list(kept, given)
                 connections = self.connections[number] = Connections()
                 how = playing.Playing('', given.folder, self.folder / f'work{number}',
-                                      self.copy_every, self.copy_every * number // 3)
+                                      self.copy_every, number)
                 machine = self.machines[number] = Machine(given, how, copy, place, connections)
                 tending, asked = upkeep.Upkeep(machine, None), keeping.Keeping(machine, None)
                 health.Health(machine, tending)
-                await machine.serve(asked.catch_up, asked.hear, asked.watch_over, asked.follow,
-                                    asked.answer_questions,
-                                    *(lambda it=it: asked.keep_asks(it) for it in asked.writing),
-                                    tending.run)
+                await machine.serve(
+                    asked.catch_up, asked.hear, asked.follow, asked.answer_questions, tending.run,
+                    *(lambda it=it: asked.keep_asks(it) for it in asked.writing))
                 return
             except* (etcd.Unreached, companion.NoCopy):
                 pass

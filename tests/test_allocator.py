@@ -483,7 +483,7 @@ class Played(TestCase):
         BROWSER.press('3', 'o')
         until(lambda: BROWSER.is_shown('#incident td'))
         self.check('calls', cells(1)[0], ['1', '1', time_of(NOW - 1000), '2', '1 ambulance',
-                                          'TQ 300 800', 'first', HOSTILE[1]])
+                                          'TQ 30000 80000', 'first', HOSTILE[1]])
         self.check('turns', cells(2)[0], ['A2', '1', 'ambulance', *map(time_of, [
             NOW - 900, NOW - 890, NOW - 100]), '\u2013', '\u2013', '\u2013',
             'its order does not say class 1'])
@@ -508,19 +508,19 @@ class Played(TestCase):
                       queue=[entry(4, 7, 'A1'), entry(4, 2, 'A2')],
                       vehicles=[vehicle('A1'), vehicle('A2')])
         room = self.show(lists)
-        known = ['A1', f'Leave: skipped, order 3, {at}, report 7', 'TQ 310 810']
+        known = ['A1', f'Leave: skipped, order 3, {at}, report 7', 'TQ 31000 81000']
         # (of A2 the room gives nothing: it has no such path)
-        unknown = ['A2', 'report 2 came out of turn', 'TQ 300 800']
+        unknown = ['A2', 'report 2 came out of turn', 'TQ 30000 80000']
         self.check_comes('what it was', self.exceptions, [known, unknown])
         self.check_comes('the line in full', lambda: words_of('#line').startswith(
-            f'A1: {known[1]}, TQ 310 810'), True)
+            f'A1: {known[1]}, TQ 31000 81000'), True)
         refresh(2)
         asked = [path, '/vehicles/A2/reports']
         self.check('asked for once', self.asked(room), asked)
         reports.append(report(9, HOSTILE[0], 'stale', 0, (532000, 182000)))
         lists.lists['queue'] = [entry(4, 2, 'A2'), entry(4, 9, 'A1')]
         self.check_comes('another', self.exceptions, [unknown, [
-            'A1', f'{HOSTILE[0]}: stale, no order, {at}, report 9', 'TQ 320 820']])
+            'A1', f'{HOSTILE[0]}: stale, no order, {at}, report 9', 'TQ 32000 82000']])
         self.check('asked for again', self.asked(room), [*asked, path])
         self.check('never two at once', room.most, 1)
 
@@ -687,7 +687,7 @@ class Played(TestCase):
         self.check('one page of A4', pages, (1, '595.92 x 841.92 pts (A4)'))
         words = set(re.findall(r'[\w.:]+', text))
         self.check('each vehicle', [f'A{it}' for it in range(40) if f'A{it}' not in words], [])
-        numbers = re.findall(r'^ *(\d+) +[123] +TQ 300 800 ', text, re.M)
+        numbers = re.findall(r'^ *(\d+) +[123] +TQ 30000 80000 ', text, re.M)
         self.check('each incident', numbers, [str(it) for it in range(1, 31)])
         self.check('each list', [it for it in PRINTED if it not in text], [])
         lists.lists['incidents'] *= 3
@@ -832,7 +832,7 @@ class Served(TestCase):
         """Both incidents are in the queue, and two keys send the nearest vehicle to the first."""
         self.check_comes('the queue', lambda: [it[1:] for it in rows('queue')],
                          [['class 1', f'Incident {it}', 'nobody sent', place]
-                          for it, place in ((1, 'TQ 300 800'), (2, 'TQ 310 800'))])
+                          for it, place in ((1, 'TQ 30000 80000'), (2, 'TQ 31000 80000'))])
         refresh()
         BROWSER.press('1')
         sent = 'SELECT callsign, incident FROM assignments'

@@ -14,19 +14,19 @@ PLACE = re.compile(r'`((?:room|dispatch|tools|tests|docs|bench|examples)[\w/.-]*
 HOLDS = {
     'a number of the rules': {
         'room_model/specs/Moments': 'scene_limit', 'room_types/src/link_limits': 'METRES',
-        'room_model/specs/Queue': 'nat_lt 180', 'room_queue/specs/QueueEntries': 'nat_lt 180',
-        'room_queue/src/queue_entries': 'UNSERVED_AFTER: u32 = 180',
-        'examples/desks/allocator-unranked.js': 'QUIET = 180',
+        'room_types/specs/Ranks': 'Some 180', 'room_types/src/ranks': 'Some(180)',
+        'examples/wall/ranks.js': '[UNSERVED]: 180',
         'room_model/specs/DayTimes': 'nat_le t 180', 'room_incident/src/day_times': '180',
         'room_types/src/numbers': 'Bounded', 'room_tables_rows/specs/ReadableColumns': 'number'},
     'a rank of the queue': {
+        'room_types/src/ranks': 'Rank::Unanswered => 8', 'room_types/specs/Ranks': 'rank_number',
+        'room_types/specs/KeyLemmas': 'rank_at', 'room_types/proofs/RankLaws': 'same_ranks',
         'room_model/specs/Queue': 'unanswered', 'room_laws/specs/Exceptions': 'record IsShown',
-        'room_queue/specs/QueueEntries': 'nat_lt 180', 'room_queue/src/queue_entries': 'rank: 8',
+        'room_queue/specs/QueueEntries': 'rank.Unserved',
+        'room_queue/src/queue_entries': 'rank: Rank::Unanswered',
         'room_queue/src/queues': 'unanswered', 'dispatch_room_board/specs/BoardTables': 'matter_of',
-        'dispatch_room_board/src/queue_columns': 'fn matter',
-        'tools/openapi_files/schemas.py': 'rank',
-        'examples/wall/words.js': 'ENTRIES', 'examples/wall/queues.js': 'OF_INCIDENTS',
-        'examples/desks/allocator-lines.js': 'INCIDENT_RANKS'},
+        'dispatch_room_board/src/queue_columns': 'fn matter', 'tools/openapi.py': 'openapi.json',
+        'examples/wall/ranks.js': 'UNANSWERED = 8', 'examples/wall/words.js': 'ENTRIES'},
     'a field of a row': {
         'room_types/src/tables': 'pub struct Vehicle',
         'room_tables_schema/src/schema_sql': 'CREATE TABLE',

@@ -383,6 +383,8 @@ Turns: 3
         for what, first in [('no JSON', answer('<html>')), ('no list', answer('{"queue":{}}')),
                             ('another list', answer('{"loans":[]}')),
                             ('a row that is none', answer('{"queue":[{"rank":1}]}')),
+                            ('a rank that is none', answer(
+                                '{"queue":[{"number":1,"rank":9,"since":0,"vehicle":""}]}')),
                             ('no date', answer('{"queue":[]}', date='')),
                             ('an error page', answer('Not here', '404 Not Found')),
                             ('an escape', answer(escape, '409 Conflict')),

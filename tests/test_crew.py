@@ -13,7 +13,9 @@ import time
 from browser import ELEMENT, Line, of_module, until
 from documents import table_of_buttons
 from pages import LEFT, PHONE, companion, faults_everywhere, sign_in
-from room import TOP, TestCase, ask, call, free_port, made, message, serving, sql
+from room import PATIENT, TOP, TestCase, ask, call, free_port, made, message, serving, sql
+from test_allocator import PlayedRoom
+from test_pages import CREW, other
 
 EVERY = 'EVERY_PLACE' in os.environ
 CUTS, CUT_FOR = (30, 5.0) if EVERY else (3, 1.5)  # moments, seconds
@@ -38,6 +40,31 @@ GIVEN_LAST = """return new Promise((resolve) => {
     last.onsuccess = () => { store.close(); resolve(last.result.number); };
   };
 });"""
+# Whether the newest note is in sight; and the buttons whose words are not seen whole.
+IN_SIGHT = """
+const main = document.querySelector('main').getBoundingClientRect();
+const note = [...document.querySelectorAll('#order li')].find((it) =>
+  it.textContent.includes(String(innerWidth)));
+const box = note?.getBoundingClientRect();
+return Boolean(box) && box.top >= main.top - 1 && box.bottom <= main.bottom + 1;
+"""
+CUT = """
+return [...document.querySelectorAll('#buttons button')].filter((it) =>
+  it.scrollHeight > it.clientHeight).map((it) => it.textContent);
+"""
+# What a page does to be heard and felt, counted.
+COUNTED = """Object.assign(window, { buzzes: 0, tones: 0, screen: 'off', mayStart: false });
+navigator.vibrate = () => { buzzes += 1; };
+navigator.wakeLock.request = async () => {
+  screen = 'on';
+  return { release: async () => { screen = 'off'; } };
+};
+OscillatorNode.prototype.start = () => { tones += 1; };
+OscillatorNode.prototype.stop = () => {};
+const { resume } = AudioContext.prototype;
+AudioContext.prototype.resume = function () {
+  return resume.call(this).then(() => { mayStart = true; });
+};"""
 BROWSER = None
 
 
@@ -73,18 +100,23 @@ class Losing(Line):
 
 
 class Served(TestCase):
+    words = PATIENT  # of the room
+
     def setUp(self):
         super().setUp()
         self.file = made(self.folder / 'room.db', 'A1,1,1,TQ303804,crewofa1')
         self.room_port = free_port()
         self.room = self.enterContext(contextlib.ExitStack())
-        self.room.enter_context(serving(self.file, 99999, port=self.room_port))
+        self.serve()
         port = free_port()
         self.enterContext(companion(self.room_port, listen=f'127.0.0.2:{port}'))
         self.line = self.enterContext(Losing(('127.0.0.2', port), port))
         self.address = f'http://localhost:{port}/'
         self.pressed, self.last_press = [], {}
         BROWSER.stand_at(*STANDS)
+
+    def serve(self):
+        self.room.enter_context(serving(self.file, 99999, *self.words, port=self.room_port))
 
     # -- the others in the room
 
@@ -227,6 +259,7 @@ class Turn(Served):
         if status == 'mobilised':
             wanted = 'scene' if is_acknowledged else 'mobile'
         self.check_comes(f'large: {status}', large, wanted)
+        self.check(f'no word is cut: {status}', BROWSER.run(CUT), [])
 
     def test_turn(self):
         """A whole turn, each button once, from off duty to home."""
@@ -361,7 +394,7 @@ class Words(Served):
         self.check_comes('it is refused', lambda: BROWSER.text('#refused'), 'The crew is not '
                          'signed out: what waits to be sent would be lost (1). Open its page until '
                          'the room has answered.')
-        self.room.enter_context(serving(self.file, 99999, port=self.room_port))
+        self.serve()
         BROWSER.open(f'{self.address}desks/crew.html')
         self.check('it is sent', self.latest()[1], 'Taken: you are mobilised.')
         self.leave()
@@ -425,7 +458,7 @@ class Words(Served):
             self.check_comes('in words', lambda: BROWSER.text('#trouble'), words)
             self.tap('mobile')
             self.check('it waits', self.waits('1 button is not'), True)
-        self.room.enter_context(serving(self.file, 99999, port=self.room_port))
+        self.serve()
         self.check('it is taken', self.latest()[1], 'Taken: you are mobilised.')
         self.check('no trouble is left', until(lambda: not BROWSER.text('#trouble')), True)
         self.check_once()
@@ -661,6 +694,158 @@ class Reopened(Served):
         self.pressed.pop()
         self.check('the table', self.reports('button'), [str(BUTTONS.index(it))
                                                          for it in self.pressed])
+
+
+# ---- the job
+
+
+class Asking(TestCase):
+    def test_no_path(self):
+        """A room that has no jobs is not asked for one again at once, but for the order."""
+        room = PlayedRoom(other(**CREW))
+        self.addCleanup(room.server_close)
+        self.addCleanup(room.shutdown)
+        sign_in(BROWSER, self.enterContext(companion(room.port)), 'crew', 'crewofa1')
+
+        def asked():
+            return [it[1] for it in room.asked if it[1] in ('/job', '/order')]
+        until(lambda: len(asked()) > 3)
+        self.check('signed in by the order', asked()[:4], ['/order', '/job', '/order', '/order'])
+        self.check('it is shown', 'TQ 30000 80000' in BROWSER.text('#order'), True)
+
+
+class Job(Served):
+    words = [*PATIENT, '--history']
+
+    def call(self, serial, level, note, place='TQ3203480467'):
+        self.ask('takerone', 'POST /call', json.dumps({
+            'class': level, 'needs': [1, 0, 0], 'note': note, 'place': place, 'serial': serial},
+            ensure_ascii=False, separators=(',', ':')))
+
+    def send_out(self):
+        self.go_on_duty()
+        self.call(7, 3, '<b>flat 12b</b>, "key code" 4711')
+        self.mobilise()
+
+    def check_order(self, what, *wanted):
+        self.check_comes(what, lambda: BROWSER.text('#order').split('\n'), list(wanted))
+
+    def see(self):
+        """Taps Seen, once the page takes it."""
+        until(lambda: BROWSER.click('#order button') or not BROWSER.is_shown('#order button'))
+
+    def test_job(self):
+        """The crew is told its incident's class and the notes of its calls, and what came since it
+        saw them is marked until it says so, also where the page is opened again."""
+        self.send_out()
+        self.sign_in()
+        until(self.is_kept)
+        stand = places()
+        where = 'TQ 32034 80467', 'Incident 1 of division 1'
+        first = '<b>flat 12b</b>, "key code" 4711'
+        self.check_order('a new order', 'New order: press Mobile.', 'Class 3', 'Order 1', 'Map',
+                         *where, first)
+        self.call(3, 1, 'no pulse')
+        self.call(9, 2, '')
+        graver = 'Class 1', 'New: was class 3', 'Order 1', 'Map', *where
+        self.check_order('a graver call', 'New order: press Mobile.', *graver, 'New: no pulse',
+                         first, 'Seen')
+        self.check('nothing moved', places(), stand)
+        self.tap('mobile')
+        self.latest()
+        self.line.cut()
+        BROWSER.open(f'{self.address}desks/crew.html')
+        self.check_order('opened again, without a network', *graver, 'New: no pulse', first, 'Seen')
+        self.see()
+        seen = 'Class 1', 'was class 3', 'Order 1', 'Map', *where
+        self.check_order('seen', *seen, 'no pulse', first)
+        self.check('the keys stay', BROWSER.run('return document.activeElement.id'), 'order')
+        BROWSER.open(f'{self.address}desks/crew.html')
+        self.check_order('and opened again', *seen, 'no pulse', first)
+        self.call(8, 3, 'he breathes')
+        self.line.mend()
+        self.check_order('a further call', *seen, 'no pulse', first, 'New: he breathes', 'Seen')
+        self.tap('scene')
+        self.tap('return')
+        self.latest()
+        self.check_order('over', 'No order')
+        self.check_comes('nothing of it is kept', lambda: 'flat 12b' in BROWSER.run(LEFT), False)
+
+    def test_tap_too_soon(self):
+        """A tap just after something came, which nobody can have seen, says nothing."""
+        self.send_out()
+        self.sign_in()
+        BROWSER.run('const now = performance.now(); performance.now = () => now')
+        self.call(8, 3, 'no pulse')
+        BROWSER.click('#order button')
+        self.check('it stays marked', BROWSER.texts('#order .look'),
+                   ['New order: press Mobile.', 'New: no pulse'])
+
+    def test_other_order(self):
+        """Of another order the page shows its own notes, and none of the one before."""
+        self.send_out()
+        self.sign_in()
+        until(self.is_kept)
+        self.line.cut()
+        self.ask('deskone1', 'POST /vehicles/A1/standdown')
+        self.call(8, 2, 'a fall', 'TQ400800')
+        self.mobilise(2)
+        BROWSER.open(f'{self.address}desks/crew.html')
+        self.check_comes('as it was kept', lambda: 'flat 12b' in BROWSER.text('#order'), True)
+        self.check_comes('and since when', lambda: BROWSER.text('#trouble').startswith(
+            'No answer from the room for 0:'), True)
+        self.line.mend()
+        self.check_order('the new one', 'Stood down: order 1 was taken away.',
+                         'New order: press Mobile.', 'Class 2', 'Order 2', 'Map', 'TQ 40000 80000',
+                         'Incident 2 of division 1', 'a fall')
+
+    def test_no_history_then(self):
+        """A room that has no notes any longer: the page goes on with the order."""
+        self.send_out()
+        self.sign_in()
+        self.check_comes('a note', lambda: 'flat 12b' in BROWSER.text('#order'), True)
+        self.room.close()
+        self.words = PATIENT
+        self.serve()
+        self.check_order('none', 'New order: press Mobile.', 'Class 3', 'Order 1', 'Map',
+                         'TQ 32034 80467', 'Incident 1 of division 1')
+        self.tap('mobile')
+        self.check('and it is taken', self.latest()[1], 'Taken: you are mobilised.')
+
+    def test_notice(self):
+        """A new order, a change and a stand-down sound and vibrate once each, and the screen stays
+        on while there is an order."""
+        self.go_on_duty()
+        self.sign_in()
+        BROWSER.run(COUNTED)
+        BROWSER.click('h1')  # a page may sound after a tap
+        self.check_comes('it may sound', lambda: BROWSER.run('return mayStart'), True)
+        self.call(7, 3, 'a fall')
+        for what, act, wanted in [
+                ('an order', self.mobilise, [1, 3, 'on']),
+                ('a graver call', lambda: self.call(3, 1, 'no pulse'), [2, 6, 'on']),
+                ('its own press', lambda: self.tap('mobile'), [2, 6, 'on']),
+                ('a stand-down', lambda: self.ask('deskone1', 'POST /vehicles/A1/standdown'),
+                 [3, 9, 'off'])]:
+            act()
+            self.check_comes(what, lambda: BROWSER.run('return [buzzes, tones, screen]'), wanted)
+        self.check_order('it is said', 'Stood down: order 1 was taken away.', 'No order')
+        BROWSER.open(f'{self.address}desks/crew.html')
+        self.check_order('and opened again', 'Stood down: order 1 was taken away.', 'No order')
+        until(self.is_placed)
+        self.tap('home')
+        self.check_order('until they say where they are', 'No order')
+
+    def test_everyone(self):
+        self.send_out()
+        self.sign_in()
+        self.call(3, 1, 'W' * 120)
+        self.check_comes('marked', lambda: BROWSER.is_shown('#order button'), True)
+        self.check('contrast, names, targets, focus', faults_everywhere(BROWSER), [])
+        for size in (360, 640), (844, 390), PHONE:
+            BROWSER.size(*size)
+            self.call(size[0], 2, f'a note at {size[0]} pixels')
+            self.check_comes(f'{size}: it is in sight', lambda: BROWSER.run(IN_SIGHT), True)
 
 
 # ---- for everyone

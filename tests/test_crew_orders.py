@@ -13,8 +13,8 @@ EVERY = 'EVERY_PLACE' in os.environ
 DEPTH, ANY_BUTTON = (7 if EVERY else 5), 2
 DESKS = TOP / 'examples' / 'desks'
 
-# Lines of crew-view.js or crew-buttons.js that are otherwise, the fault that it comes to, and how
-# many events lead there.
+# Lines of crew-view.js, crew-job.js or crew-buttons.js that are otherwise, the fault that it comes
+# to, and how many events lead there.
 MUTATIONS = [
     ('what was answered is not kept',
      'Math.max(0, ...messages.filter((it) => it.answer).map((it) => it.number))', '0', 'behind', 1),
@@ -26,13 +26,26 @@ MUTATIONS = [
      'untrue', 3),
     ('Return keeps the order', 'ENDS_TURN.includes(button) ? null : now.order', 'now.order',
      'untrue', 1),
+    ('what was seen goes with the next answer', 'return isNew ? {', 'return true ? {', 'misread',
+     2),
+    ('what was seen stays with the next order', 'before?.order !== content.order.order', '!before',
+     'misread', 2),
+    ('notes are counted', 'text !== seen[passed]', 'passed >= seen.length', 'misread', 2),
+    ('Seen is not kept', 'seen: allSeen(kept.room) });', 'seen: kept.seen });', 'misread', 3),
+    ('a stand-down is no news', 'return mayBeOwn && status !== RETURNING ? 0', 'return before ? 0',
+     'untold', 2),
+    ('a Return is a stand-down', 'nowOf(before, messages).order ?? 0;',
+     'before.room.order?.order ?? 0;', 'false', 3),
+    ('a Home under way is a stand-down', '(!it.answer || isStray', '(it.answer && isStray',
+     'false', 6),
 ]
+FILES = 'crew-view.js', 'crew-job.js', 'crew-buttons.js'
 
 
 class Orders(TestCase):
     def setUp(self):
         super().setUp()
-        for it in 'crew-view.js', 'crew-buttons.js':
+        for it in FILES:
             (self.folder / it).write_text((DESKS / it).read_text())
         script = TOP / 'tests' / 'crew_orders.js'
         (self.folder / script.name).write_text(script.read_text())
@@ -69,7 +82,7 @@ class Orders(TestCase):
             self.check(f'{what}: it is found', fault in self.mutated(old, new, depth), True)
 
     def mutated(self, old, new, depth):
-        texts = {it: (DESKS / it).read_text() for it in ('crew-view.js', 'crew-buttons.js')}
+        texts = {it: (DESKS / it).read_text() for it in FILES}
         self.assertEqual(sum(it.count(old) for it in texts.values()), 1, old)
         for name, text in texts.items():
             (self.folder / name).write_text(text.replace(old, new))

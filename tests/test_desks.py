@@ -27,7 +27,7 @@ TOKENS = 'deskone1', 'desktwo2', 'takerone'
 TAKER = {'X-Terminal': 'takerone'}
 DESK = {'X-Terminal': 'deskone1'}
 # The wall's modules that the pages share.
-SHARED = '/wall/ground.js', '/wall/nodes.js', '/wall/words.js'
+SHARED = '/wall/ground.js', '/wall/nodes.js', '/wall/ranks.js', '/wall/words.js'
 # Files of the folder that are no page, and ways out of it.
 NO_PAGES = ['/desks/desks.py', '/desks/README.md', '/desks/nginx.conf', '/desks/places.csv',
             '/desks/', '/desks', '/plan.csv', '/wall/wall.py', '/wall/map.js', '/desks/../plan.csv',

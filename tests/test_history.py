@@ -1,7 +1,7 @@
-"""The paths of history, `GET /incidents/N`, `GET /vehicles/C/reports` and `GET /last`, in a room
-that is served with --history: scripts of rows/history are played to a room of the example's plan
-and fleet, and its answers are compared. These questions change nothing. By default the paths are
-none, and all else is answered with the same bytes."""
+"""The paths of history, `GET /incidents/N`, `GET /vehicles/C/reports`, `GET /job` and `GET /last`,
+in a room that is served with --history: scripts of rows/history are played to a room of the
+example's plan and fleet, and its answers are compared. These questions change nothing. By default
+the paths are none, and all else is answered with the same bytes."""
 # needs: python3 gcc libc6-dev sqlite3
 # builds: dispatch_room
 import re
@@ -13,7 +13,7 @@ from room import FLEET, PATIENT, PLAN, PROGRAM, dump, message, run, serving, tal
 from scripts import ROWS, answers, messages
 
 SCRIPTS = sorted((ROWS / 'history').glob('*.rows'))
-PATH = re.compile('/last|/incidents/([1-9][0-9]*)|/vehicles/[A-Z0-9]{1,8}/reports')
+PATH = re.compile('/job|/last|/incidents/([1-9][0-9]*)|/vehicles/[A-Z0-9]{1,8}/reports')
 
 
 def is_of_history(it):

@@ -25,9 +25,9 @@ def duty(vehicle, place='TQ300801', until=50000):
     return desk(f'POST /vehicles/{vehicle}/duty', place=place, until=until)
 
 
-def call(serial, place='TQ300800'):
+def call(serial, place='TQ300800', note=''):
     return message('takerone', 'POST /call', json.dumps(
-        {'class': 2, 'needs': [1, 0, 0], 'note': '', 'place': place, 'serial': serial}))
+        {'class': 2, 'needs': [1, 0, 0], 'note': note, 'place': place, 'serial': serial}))
 
 
 def report(button, number, order=1):
@@ -87,7 +87,8 @@ BEFORE = [
     ('GET /order', [ANEW, duty('A1'), call(1), mobilise('A1')]),
     ('POST /report', []),
     ('GET /incidents/1', [ANEW, call(1)]),
-    ('GET /last', [duty('A1'), mobilise('A1'), report('mobile', 1)]),
+    ('GET /job', [ANEW, duty('A1'), call(1, note='flat 12b'), mobilise('A1')]),
+    ('GET /last', [report('mobile', 1)]),
     ('GET /last', []),
     ('GET /vehicles/A1/reports', [report('leave', 2)]),
     ('POST /vehicles/B1/off', [ANEW]),

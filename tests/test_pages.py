@@ -72,6 +72,7 @@ def other(**answers):
 CREW = {'queue': OTHER_ROLE, 'last': (200, {'number': 4, 'order': 7}),
         'order': (200, {'post': None, 'status': 2, 'order': {
             'class': 1, 'division': 1, 'incident': 3, 'order': 7, 'place': [530000, 180000]}})}
+JOB = {'class': 1, 'notes': ['no pulse'], **CREW['order'][1]}
 TAKER = {'queue': OTHER_ROLE, 'order': OTHER_ROLE, 'last': (200, {'serial': 4})}
 
 
@@ -134,9 +135,13 @@ class Pages(TestCase):
         self.check_names('places found')
 
     def test_crew(self):
-        sign_in(BROWSER, self.serve(other(**CREW)), 'crew', 'crewofa1')
-        self.check('the order', bool(until(lambda: '3' in words_of('#order'))), True)
+        room = other(**CREW, job=(200, JOB))
+        sign_in(BROWSER, self.serve(room), 'crew', 'crewofa1')
+        self.check('the job', bool(until(lambda: 'no pulse' in words_of('#order'))), True)
         self.check_page("a crew's page")
+        room.answers['GET /job'] = 200, JOB | {'notes': ['no pulse', 'a fall']}
+        self.check('a note', bool(until(lambda: 'New: a fall' in words_of('#order'))), True)
+        self.check_page('a note that is new')
 
     def test_signing_in(self):
         BROWSER.open(f'{self.serve(desk())}desks/index.html')

@@ -12,7 +12,7 @@ import subprocess
 import time
 
 from browser import Line, of_module, until
-from pages import LEFT, companion, faults_everywhere, sign_in
+from pages import LEFT, PHONE, companion, faults_everywhere, sign_in
 from room import PATIENT, TOP, TestCase, ask, call, free_port, made, message, serving, sql
 
 EVERY = 'EVERY_PLACE' in os.environ
@@ -30,6 +30,15 @@ def setUpModule():
 IS_LOADED = """const names = performance.getEntriesByType('resource').map((it) => it.name);
 return ['/room/last', '/data/areas.json', '/data/places.json'].every((path) =>
   names.some((it) => it.endsWith(path)));"""
+# Fields and labels that cover one another.
+COVERING = """
+const shown = [...document.querySelectorAll('label, input, textarea, button')]
+  .filter((it) => it.checkVisibility()).map((it) => [it, it.getBoundingClientRect()]);
+const covers = ([one, a], [other, b]) => !one.contains(other) && !other.contains(one)
+  && a.left < b.right && b.left < a.right && a.top < b.bottom && b.top < a.bottom;
+return shown.flatMap((one, nth) => shown.slice(nth + 1).filter((it) => covers(one, it))
+  .map(([other]) => [one[0], other].map((it) => it.outerHTML.slice(0, 60))));
+"""
 DRAWN = '#map .areas *'  # what it draws last as it opens
 # Why a browser keeps no call, and in which method of its store that comes; and what makes it fail.
 UNKEPT = [('IDBObjectStore', 'add', 'The disk is full.'),
@@ -151,13 +160,15 @@ class Calls(Served):
         value = 'return document.querySelector("#place").value'
         self.check_comes('the second', lambda: BROWSER.run(value), 'Hope & Anchor, Mill Lane')
         BROWSER.click_at('#map', 0, 0)  # the middle of two areas of 50 km by 100 km
-        found = until(lambda: re.fullmatch(r'TQ(\d{3})(\d{3})', BROWSER.run(value)))
-        self.check('a click on the map', [abs(int(it) - 500) < 20 for it in found.groups()],
+        found = until(lambda: re.fullmatch(r'TQ (\d{5}) (\d{5})', BROWSER.run(value)))
+        self.check('a click on the map', [abs(int(it) - 50000) < 2000 for it in found.groups()],
                    [True, True])
+        self.check_comes('and its division', lambda: BROWSER.text('#place-says'),
+                         f'{found[0]}, division 1')
         BROWSER.press('Control+a')
         BROWSER.type('TL 300 804')
         self.check_comes('a place outside', lambda: BROWSER.text('#place-says'),
-                         'This place lies in no division.')
+                         'TL 30000 80400 lies in no division.')
 
     def test_note(self):
         """What a person typed is shown as it is and counted in bytes."""
@@ -181,6 +192,7 @@ class Calls(Served):
         send_call('TQ300800', '3', note)
         answer('NEW')
         self.check('as it was typed', note in BROWSER.text('#calls'), True)
+        self.check('to the metre', 'TQ 30000 80000' in BROWSER.text('#calls'), True)
         self.check('and no markup', BROWSER.all('#calls img, #calls b'), [])
         self.check('in the table', self.calls('hex(note)'), [note.encode().hex().upper()])
 
@@ -247,6 +259,10 @@ class Calls(Served):
         send_call('TQ300800', '1', 'a call')
         answer('NEW')
         self.check("the call taker's page", faults_everywhere(BROWSER), [])
+        for width in PHONE[0], 320:
+            BROWSER.size(width, PHONE[1])
+            self.check(f'nothing covers another: {width}', BROWSER.run(COVERING), [])
+        BROWSER.size(1280, 720)
         BROWSER.open(f'{self.address}desks/index.html')
         self.check('where one signs in', faults_everywhere(BROWSER), [])
 

@@ -22,7 +22,8 @@ AWAY = 4.0  # seconds at most until a fault has a second beside it, and until it
 PAUSE = 0.25  # seconds of a terminal between an answer and its next request
 COPY_EVERY = 1000
 LOST = 20  # answers of each member
-SIZES = {'room': 64 << 20, 'work': 64 << 20, 'etcd': 400 << 20}  # bytes of file systems
+ROOM = int(max(LASTS / 600, 1) * (64 << 20))  # three copies of a room fit, which grows
+SIZES = {'room': ROOM, 'work': ROOM, 'etcd': 400 << 20}  # bytes of file systems
 
 
 class Disturbed(ThreeTestCase):

@@ -54,11 +54,7 @@ class Forms(ThreeTestCase):
         for records, wanted in ([change], True), ([change, change], False), (
                 [Record('b', call(1)), change], False):
             entry = entries.entry_behind(Place(7, 'a' * 64, 100), 100, records)
-            try:
-                found = entries.entry_of(entry.text) == entry
-            except entries.NoEntry:
-                found = False
-            self.check(f'{len(records)} records', found, wanted)
+            self.check(f'{len(records)} records', entries.entry_of(entry.text) == entry, wanted)
 
     def test_tokens(self):
         """Whom the copy knows by another token: two may swap theirs, and one has none."""

@@ -51,16 +51,12 @@ class Entries(ThreeTestCase):
         for at in range(len(entry.text)):
             for other in entry.text[at] ^ 1, entry.text[at] ^ 32:
                 changed = entry.text[:at] + bytes([other]) + entry.text[at + 1:]
-                try:
-                    found = entries.entry_of(changed)
-                except entries.NoEntry:
-                    continue
-                if found.place.digest == entry.place.digest:
+                found = entries.entry_of(changed)
+                if found and found.place.digest == entry.place.digest:
                     read.append(changed)
         self.check('another byte is another entry, or none', read, [])
         for it in b'', b'\n', b'entry 2\n', entry.text[:-1], entry.text + b'\n', b'\xff\n' * 3:
-            with self.subTest(it), self.assertRaises(entries.NoEntry):
-                entries.entry_of(it)
+            self.check(f'{it[:20]}: none', entries.entry_of(it), None)
 
     def test_messages(self):
         """Only what a room reads as one whole message is a record."""

@@ -23,6 +23,7 @@ import turns  # noqa: E402
 WHOLE = b'HTTP/1.1 200 OK\r\nContent-Length: 2\r\n\r\n{}'
 CHUNKS = (b'HTTP/1.1 200 OK\r\nTransfer-Encoding: chunked\r\n\r\n'
           b'3\r\n{"a\r\n5\r\n": 1}\r\n0\r\n\r\n')
+EMPTY = b'HTTP/1.1 204 No Content\r\nContent-Length: 0\r\n\r\n'
 OPENS_WITHIN = 3.0  # seconds
 OPENS_LATE = """import sys, time
 time.sleep(%d)
@@ -82,6 +83,7 @@ class Wires(TestCase):
         for size in 1, 2, 7, 1000:
             self.check(f'with a length, by {size}', self.taken(WHOLE, size), (200, b'{}'))
             self.check(f'in chunks, by {size}', self.taken(CHUNKS, size), (200, b'{"a": 1}'))
+            self.check(f'with none, by {size}', self.taken(EMPTY, size), (204, b''))
 
     def test_lines(self):
         """An answer without an end is taken line by line, as it comes."""
@@ -117,7 +119,6 @@ class Wires(TestCase):
                 except etcd.Unreached as reason:
                     printed.append(str(reason))
             await asyncio.sleep(0.2)
-            by.close()
             server.close()
             return printed
         with unittest.mock.patch.object(channel, 'CONNECTS_WITHIN', PATIENCE):
@@ -173,6 +174,24 @@ class Opening(TestCase):
         count = itertools.count(1)
         self.check('it works', self.opened(2 * OPENS_WITHIN, lambda _: next(count)), 'it answered')
         self.check('it hangs', self.opened(PATIENCE, lambda _: 7), 'the room is silent')
+
+    def test_ended(self):
+        """Whoever plays a room that ends looks at it at once."""
+        program = self.folder / 'program'
+        program.write_text(f'#!{sys.executable}\n')
+        program.chmod(0o700)
+        copy = copies.Copy(self.folder / 'copy.db', 0, '', '', 'x')
+        copy.file.write_bytes(b'')
+
+        async def play():
+            taken = asyncio.Queue()
+            room = played_room.PlayedRoom(str(program), copy, self.folder, taken.put_nowait)
+            await room.start()
+            found = await asyncio.wait_for(taken.get(), PATIENCE)
+            ended = room.answers.ended.is_set()
+            await room.drop()
+            return found, ended
+        self.check('it looks', asyncio.run(play()), ([], True))
 
     def test_worked(self):
         """Ticks of the processor are counted."""

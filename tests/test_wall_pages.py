@@ -139,6 +139,24 @@ return [...names.children].filter((it) => {
     && mark.top < box.bottom && mark.bottom > box.top);
 }).map((it) => it.textContent);
 """
+# Callsigns that do not stand in their marks; and how wide each is, as a part of its own width.
+OUTSIDE = """
+return [...document.querySelectorAll('.vehicle.mark')].filter((it) => {
+  const [name, shape] = ['.name', '.shape'].map((css) => it.querySelector(css).getBBox());
+  return name.x < shape.x || name.x + name.width > shape.x + shape.width
+    || name.y < shape.y - 2 || name.y + name.height > shape.y + shape.height + 2;
+}).map((it) => it.textContent);
+"""
+SQUEEZED = """
+return [...document.querySelectorAll('.vehicle.mark .name')].map((it) => {
+  const free = it.cloneNode(true);
+  free.removeAttribute('textLength');
+  it.after(free);
+  const part = it.getBBox().width / free.getBBox().width;
+  free.remove();
+  return [it.textContent, part];
+});
+"""
 NAMES = """
 return [...document.querySelectorAll('.vehicle.mark .name')]
   .filter((it) => it.getBoundingClientRect().width > 0).map((it) => it.textContent).sort();
@@ -275,6 +293,17 @@ class Letters(Walls):
             self.check_comes(f"{what}: areas' names", lambda: BROWSER.run(COVERED), [])
         BROWSER.press('5')
         self.check_comes('a division of nine: twice as high', lambda: self.too_low(2 * LEAST), [])
+
+    def test_long_callsigns(self):
+        """A callsign of any length stands in its mark, and no letter is squeezed to a half."""
+        names = sorted('A12345678'[:it] for it in range(1, 9))
+        lists = {'vehicles': [vehicle(name, 1, 1, [510000 + 9000 * nth, 150000])
+                              for nth, name in enumerate(names)],
+                 'incidents': [], 'points': [], 'queue': []}
+        self.show(lambda token, what: lists[what], 1, LARGE)
+        self.check_comes('each whole', lambda: BROWSER.run(NAMES), names)
+        self.check('in its mark', BROWSER.run(OUTSIDE), [])
+        self.check('not squeezed', [it for it in BROWSER.run(SQUEEZED) if it[1] < 0.5], [])
 
     def too_low(self, least):
         """How high capitals are, where they are too low."""

@@ -2,8 +2,8 @@
 // the vehicles' reports, of a room that has a path for them. Each exception is asked for once.
 
 import { askInTurn } from './allocator-reading.js';
+import { OUT_OF_TURN } from '../wall/ranks.js';
 
-const EXCEPTION = 4; // the rank of the queue
 const AT_ONCE = 8; // vehicles that are asked for after a round
 
 const keyOf = ({ number, vehicle }) => `${number} ${vehicle}`;
@@ -13,13 +13,13 @@ export class Exceptions {
 
   /** The report of an entry; null of one that is no exception, or of which nothing is known. */
   reportOf(entry) {
-    return entry.rank === EXCEPTION ? this.#reports.get(keyOf(entry)) ?? null : null;
+    return entry.rank === OUT_OF_TURN ? this.#reports.get(keyOf(entry)) ?? null : null;
   }
 
   /** Asks for the reports of vehicles of which an exception was not asked for; says whether there
       were any. What has left the queue is forgotten. */
   async ask({ queue }) {
-    const shown = queue.filter((it) => it.rank === EXCEPTION);
+    const shown = queue.filter((it) => it.rank === OUT_OF_TURN);
     const isNew = (it) => !this.#reports.has(keyOf(it));
     const asked = shown.filter((it) => !isNew(it));
     const vehicles = [...new Set(shown.filter(isNew).map((it) => it.vehicle))].slice(0, AT_ONCE);

@@ -2,7 +2,8 @@
 // incidents. What only the queue says of an incident stands in the incident's row.
 
 import { table } from './allocator-incident.js';
-import { STATUSES, clock, lineWords, reference, since } from './allocator-words.js';
+import { STATUSES, clock, lineWords, since } from './allocator-words.js';
+import { toTheMetre } from './grid.js';
 import { element, fill } from './nodes.js';
 
 const KIND_LETTERS = ['A', 'C', 'S'];
@@ -31,7 +32,7 @@ const numbers = (needs) => needs.map((it, kind) => it && `${it}${KIND_LETTERS[ki
 
 function incidentTable(room, marks) {
   const marksOf = Map.groupBy(marks, (it) => it.target.incident);
-  const rows = room.incidents.map((it) => [it.number, it.class, reference(it.place),
+  const rows = room.incidents.map((it) => [it.number, it.class, toTheMetre(it.place),
     clock(it.opened), since(it.opened, room.moment), numbers(it.needs), numbers(it.lack) || '–',
     room.sentTo(it.number).map((one) => `${one.vehicle} ${STATUSES[one.status]}`).join(', '),
     it.calls, (marksOf.get(it.number) ?? []).map((one) => one.why).join('; ')]);

@@ -4,8 +4,8 @@
 import { askInTurn } from './allocator-reading.js';
 import { refusalWords } from './allocator-acting.js';
 import { incidentWhy, vehicleWhy } from './allocator-lines.js';
-import { KINDS, clock, far, reference, since, vehicles } from './allocator-words.js';
-import { distance } from './grid.js';
+import { KINDS, clock, far, since, vehicles } from './allocator-words.js';
+import { distance, toTheMetre } from './grid.js';
 import { element, fill } from './nodes.js';
 
 const NO_PATH = 36;
@@ -81,7 +81,7 @@ export class IncidentPage {
   }
 
   #showHistory(it, room) {
-    this.head.textContent = `Class ${it.class}, ${reference(it.place)}, ${STATES[it.state]}; `
+    this.head.textContent = `Class ${it.class}, ${toTheMetre(it.place)}, ${STATES[it.state]}; `
       + `opened ${clock(it.opened)}, ${since(it.opened, room.moment)} ago; first order `
       + `${time(it.first_order)}; needs ${vehicles(it.needs)}; served by `
       + `${vehicles(it.served) || 'nobody'}.`;
@@ -91,7 +91,7 @@ export class IncidentPage {
     fill(this.list, it.into === null ? null : element('p', {}, 'It was merged into ',
       linkTo(it.into), ', and its calls with it.'),
     table('Calls', CALLS, it.calls.map((one) => [one.position, one.serial, time(one.moment),
-      one.class, vehicles(one.needs), reference(one.place),
+      one.class, vehicles(one.needs), toTheMetre(one.place),
       withOrigin(callWords(one, it), one.given, it), one.note])),
     table('Turns', TURNS, it.turns.map((one) => [one.vehicle, one.order, KINDS[one.kind - 1],
       time(one.ordered), time(one.acknowledged), time(one.scene), time(one.left),
@@ -101,14 +101,14 @@ export class IncidentPage {
   /** Of a room without such a path: its line, and the vehicles that are sent to it now. */
   #showLists(room) {
     const it = room.incidentOf.get(this.number);
-    const words = it ? `Class ${it.class}, ${reference(it.place)}; opened ${clock(it.opened)}, `
+    const words = it ? `Class ${it.class}, ${toTheMetre(it.place)}; opened ${clock(it.opened)}, `
       + `${since(it.opened, room.moment)} ago; needs ${vehicles(it.needs)}; calls: ${it.calls}; `
       + `${incidentWhy(room, it)}.` : 'No active incident has this number.';
     this.head.textContent = 'This room does not show calls, notes and moments of an incident. '
       + words;
     fill(this.list, table('Vehicles sent now', ['Vehicle', 'Kind', 'Place', ''],
       room.sentTo(this.number).map((one) => [one.vehicle, KINDS[one.kind - 1],
-        reference(one.place), vehicleWhy(room, one)])));
+        toTheMetre(one.place), vehicleWhy(room, one)])));
   }
 }
 

@@ -2,27 +2,26 @@
 
 import { KINDS, STATUSES, classWords, clock, farFrom, isEligible, isUnserved, line, since, sum,
   urgentFirst, vehicles } from './allocator-words.js';
+import { SUBJECTS, UNSERVED, isTimed } from '../wall/ranks.js';
 import { entryWords } from '../wall/words.js';
 
 const KIND_WORDS = KINDS.map((it) => it.split(' ')[0]);
-const UNTIMED = 7; // the rank of points, which have no moment
 
 // ---- the queue, in the room's order
-
-const INCIDENT_RANKS = [1, 2, 3];
 
 function queueLine(room, entry) {
   const [what, why] = entryWords(entry, clock);
   const vehicle = room.vehicleOf.get(entry.vehicle);
-  const number = INCIDENT_RANKS.includes(entry.rank) ? entry.number : vehicle?.incident;
+  const subject = SUBJECTS[entry.rank];
+  const number = subject === 'Incident' ? entry.number : vehicle?.incident;
   const incident = room.incidentOf.get(number);
-  const point = entry.rank === UNTIMED ? room.pointOf.get(entry.number) : null;
+  const point = subject === 'Point' ? room.pointOf.get(entry.number) : null;
   return line(`${entry.rank} ${entry.number} ${entry.vehicle}`, { what, why,
-    age: entry.rank === UNTIMED ? '' : since(entry.since, room.moment),
-    sign: classWords(incident), level: entry.rank === 1 ? 'urgent' : '',
+    age: isTimed(entry.rank) ? since(entry.since, room.moment) : '',
+    sign: classWords(incident), level: entry.rank === UNSERVED ? 'urgent' : '',
     place: (entry.report ?? incident ?? point ?? vehicle)?.place ?? null,
     target: { incident: number ?? undefined, vehicle: entry.vehicle || undefined,
-      report: entry.rank === 4 ? entry.number : undefined,
+      report: subject === 'Report' ? entry.number : undefined,
       point: point ? entry.number : undefined } });
 }
 

@@ -1,8 +1,9 @@
 // A list of the page: its title with how many there are and how old they are, lines in pages that
 // turn, one line that is selected, and what was done or refused there.
 
+import { wait } from './allocator-words.js';
+import { toTheMetre } from './grid.js';
 import { element, keep, set, setText } from './nodes.js';
-import { reference, wait } from './allocator-words.js';
 
 const OPEN_ROWS = 12; // lines of a page where the window is narrow and the list as long as it likes
 const PADDING = 3; // pixels above and below the lines
@@ -137,7 +138,7 @@ export class Panel {
     set(node, { id: `${this.name}-${it.at}`, 'data-level': it.level, 'data-key': it.key,
       'aria-selected': it.at === this.at, 'aria-posinset': it.at + 1,
       'aria-setsize': this.lines.length });
-    const place = it.place ? reference(it.place) : '';
+    const place = it.place ? toTheMetre(it.place) : '';
     const texts = [it.age, it.sign, it.what, it.why, place];
     node.parts.forEach((part, at) => setText(part, texts[at]));
   }

@@ -3,8 +3,7 @@
 
 import { KINDS, STATUSES, classWords, clock, isEligible, isUnserved, line, servedOf, since, sum,
   urgentFirst, vehicles } from './allocator-words.js';
-
-const QUIET = 180; // seconds that an incident is not in the queue though nobody is sent
+import { LIMITS, UNANSWERED, UNSERVED } from '../wall/ranks.js';
 
 /** All lines, the most urgent sort first. */
 export function unrankedLines(room, marks) {
@@ -18,9 +17,9 @@ const ofIncident = (room, sort, why, level = '') => (it) => line(`${sort} ${it.n
 
 /** Incidents to which nobody is sent, before the queue shows them. */
 function unsent(room) {
-  const ranked = new Set(room.queue.filter((it) => it.rank === 1).map((it) => it.number));
+  const ranked = new Set(room.queue.filter((it) => it.rank === UNSERVED).map((it) => it.number));
   return room.incidents.filter((it) => isUnserved(it) && !ranked.has(it.number)).sort(urgentFirst)
-    .map(ofIncident(room, 'unsent', (it) => (room.moment - it.opened > QUIET
+    .map(ofIncident(room, 'unsent', (it) => (room.moment - it.opened > LIMITS[UNSERVED]
       ? 'nobody sent' : 'nobody sent yet'), 'urgent'));
 }
 
@@ -71,7 +70,7 @@ function unattended(room) {
 
 /** Offers before the queue shows them, and those whose time is over before they were answered. */
 function offers(room) {
-  const ranked = new Set(room.queue.filter((it) => it.rank === 8).map((it) => it.vehicle));
+  const ranked = new Set(room.queue.filter((it) => it.rank === UNANSWERED).map((it) => it.vehicle));
   return room.offers.filter((it) => !ranked.has(it.vehicle) || it.until <= room.moment)
     .map((it) => {
       const isOurs = room.vehicleOf.has(it.vehicle);

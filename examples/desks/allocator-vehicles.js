@@ -3,7 +3,7 @@
 import { isFree, numberField, placeField, placeOf, postAsk, postBack, untilField, untilOf,
   vehicleAsk, vehicleAt } from './allocator-forms.js';
 import { farFrom, isEligible } from './allocator-words.js';
-import { reference } from './grid.js';
+import { reference, toTheMetre } from './grid.js';
 
 const SHIFT = 12 * 3600; // seconds that a shift lasts where nothing else is written
 
@@ -35,7 +35,7 @@ const dutyAsk = (it, place, until) => vehicleAsk(it, 'duty', { place, until });
 
 function dutyForm(it, room) {
   const place = vehicleAt(room, it)?.place;
-  return { fields: [untilField(room, SHIFT), placeField(place ? reference(place) : '')] };
+  return { fields: [untilField(room, SHIFT), placeField(place ? toTheMetre(place) : '')] };
 }
 
 function dutyRequest(it, values, room) {
@@ -73,7 +73,7 @@ const OFF = { key: 'f', name: 'off duty', of: 'vehicle', button: 'Off duty',
 function pointForm(it, room) {
   const point = room.pointOf.get(it.point);
   return { fields: [numberField('point', 'Point', it.point, '1 to 99'),
-    placeField(point ? reference(point.place) : ''),
+    placeField(point ? toTheMetre(point.place) : ''),
     numberField('cover', 'Cover', point?.cover ?? 1, 'vehicles wanted there, 0 to 9')],
   note: 'A point can be moved, and its cover be 0; it can not be removed.' };
 }

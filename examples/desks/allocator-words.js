@@ -1,9 +1,9 @@
 // The words of the allocator's page beside those of the wall.
 
-import { KINDS, STATUSES, reference, timeOf, vehicles, wait } from '../wall/words.js';
-import { distance } from './grid.js';
+import { KINDS, STATUSES, timeOf, vehicles, wait } from '../wall/words.js';
+import { distance, toTheMetre } from './grid.js';
 
-export { KINDS, STATUSES, reference, vehicles, wait };
+export { KINDS, STATUSES, vehicles, wait };
 
 export const sum = (numbers) => numbers.reduce((all, it) => all + it, 0);
 
@@ -36,7 +36,7 @@ export const line = (key, parts) =>
 
 /** A line as one text. */
 export const lineWords = ({ what, sign, why, place, age }) =>
-  [`${what}: ${why}`, sign, place ? reference(place) : '', age].filter(Boolean).join(', ');
+  [`${what}: ${why}`, sign, place ? toTheMetre(place) : '', age].filter(Boolean).join(', ');
 
 export const classWords = (incident) => (incident ? `class ${incident.class}` : '');
 

@@ -1,5 +1,6 @@
 // What became of a position's calls: the last in large letters, and a line for each.
 
+import { read, toTheMetre } from './grid.js';
 import { element, fill, keep, setText } from './nodes.js';
 import { vehicles } from '../wall/words.js';
 
@@ -14,8 +15,10 @@ function wordsOf(call) {
     : ['NEW', where, 'good'];
 }
 
-const placeOf = ({ content, about }) => (about?.name ? `${about.name} · ${content.place}`
-  : content.place);
+function placeOf({ content, about }) {
+  const place = toTheMetre(read(content.place).place);
+  return about?.name ? `${about.name} · ${place}` : place;
+}
 
 export function showAnswer(node, call) {
   const [large, words, look] = call ? wordsOf(call)

@@ -2,8 +2,9 @@
 // heard last. What was pressed is in the outbox.
 //
 //   keepFiles()                keeps the page's files; crew-worker.js gives them back
-//   keepRoom(token, kept)      keeps what crew-view.js made of the room's last answer, and when
-//   lastRoom(token)            gives it back: { kept, ago }, in milliseconds; null and 0 if none
+//   keepRoom(token, kept, ago) keeps what crew-view.js made of the room's last answer, which was
+//                              heard so many milliseconds ago
+//   lastRoom(token)            gives it back: { kept, ago }; null and 0 if none
 //   roomName(token)            the name under which it is kept
 //   forgetRoom(token)          forgets it
 
@@ -24,9 +25,9 @@ export async function keepFiles() {
 }
 
 /** A browser whose store is full shows the page only once the room answers. */
-export function keepRoom(token, kept) {
+export function keepRoom(token, kept, ago) {
   try {
-    localStorage.setItem(roomName(token), JSON.stringify({ kept, at: Date.now() }));
+    localStorage.setItem(roomName(token), JSON.stringify({ kept, at: Date.now() - ago }));
   } catch (fault) {
     forgetRoom(token);
     console.warn(`What the room said is not kept: ${fault}`);

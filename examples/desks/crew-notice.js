@@ -1,16 +1,21 @@
-// What a crew hears, feels and reads where its order comes, changes or is taken away by the desk;
-// and the screen stays on while there is one. A phone lets a page sound after its first tap.
+// What a crew hears and feels where its order comes, where something of its job changes, and where
+// the desk takes the order away; and the screen stays on while there is one. A phone lets a page
+// sound after its first tap.
 //
-//   notice.note(shown, messages)   gives words where the order was taken away; '' where not
+//   notice.note(view)   looks at what is shown; tells of what is other than before
 
 const TONES = [[880, 0], [1320, 0.2], [880, 0.4]]; // hertz, and seconds after the beginning
 const LENGTH = 0.18; // seconds of a tone
-const ENDS_TURN = ['return', 'home'];
+
+/** What a crew is told of: '' where there is nothing. */
+function newsOf({ job, taken }) {
+  if (job) return JSON.stringify([job.order, job.class, job.notes.map(({ text }) => text)]);
+  return taken ? `${taken} was taken away` : '';
+}
 
 export class Notice {
-  #order; // the last that was shown; not known before the first
-  #told = null; // the last that was told of
-  #words = '';
+  #told = ''; // the news that was told last
+  #hasOrder = false;
   #sound = null;
   #lock = null; // what keeps the screen on
 
@@ -22,18 +27,14 @@ export class Notice {
     document.addEventListener('visibilitychange', () => this.#keepOn());
   }
 
-  note({ order }, messages) {
-    const before = this.#order;
-    if (before === order) return this.#words;
-    this.#order = order;
+  note(shown) {
+    const news = newsOf(shown);
+    if (news && news !== this.#told) this.#tell();
+    this.#told = news || this.#told;
+    const hasOrder = shown.order !== null;
+    if (hasOrder === this.#hasOrder) return;
+    this.#hasOrder = hasOrder;
     this.#keepOn();
-    const isOwn = messages.some(({ content }) =>
-      content.order === before && ENDS_TURN.includes(content.button));
-    const isTaken = order === null && before !== undefined && !isOwn;
-    this.#words = isTaken ? `Stood down: order ${before} was taken away.` : '';
-    if (isTaken || (order !== null && order !== this.#told)) this.#tell();
-    this.#told = order ?? this.#told;
-    return this.#words;
   }
 
   #tell() {
@@ -50,7 +51,7 @@ export class Notice {
   /** The browser lets go of the screen itself where the page is hidden. */
   async #keepOn() {
     try {
-      if (this.#order === null) {
+      if (!this.#hasOrder) {
         await this.#lock?.release();
         this.#lock = null;
       } else if (document.visibilityState === 'visible') {

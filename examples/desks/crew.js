@@ -1,15 +1,17 @@
-// The crew's page: asks for the order every two seconds, and sends what is pressed through the
+// The crew's page: asks for the job every two seconds, and sends what is pressed through the
 // outbox, which keeps it until its answer came. What is shown is crew-view.js's to say.
 
+import { askJob } from './crew-asking.js';
 import { isWithheld } from './crew-buttons.js';
 import { keepFiles, keepRoom, lastRoom, roomName } from './crew-kept.js';
 import { Notice } from './crew-notice.js';
+import { OrderPanel } from './crew-order.js';
 import { Place } from './crew-place.js';
 import { Press } from './crew-press.js';
 import { drawReports } from './crew-reports.js';
-import { heard, view } from './crew-view.js';
-import { positionOf, reference } from './grid.js';
-import { byId, element, fill, setText } from './nodes.js';
+import { heard, saw, view } from './crew-view.js';
+import { reference } from './grid.js';
+import { byId, setText } from './nodes.js';
 import { openOutbox } from './outbox.js';
 import { ask } from './room.js';
 import { signedIn } from './sign.js';
@@ -18,13 +20,13 @@ import { STATUSES, wait } from '../wall/words.js';
 const ASK_EVERY = 2000; // milliseconds
 const STALE_AFTER = 6000; // milliseconds
 const HOLD = 5000; // milliseconds in which a press can be taken back
-const MOBILISED = 2;
 const DIGITS = 10; // of a place: to the metre, as the room has it
 const NUMBERED_FROM = Date.UTC(2026, 0, 1) / 1000; // seconds: see begin()
 
 const token = signedIn();
 const place = new Place(byId('place'));
 const notice = new Notice();
+const orderPanel = new OrderPanel(byId('order'), () => { keep(saw(kept)); draw(); });
 const buttons = new Press(byId('buttons'), byId('held'), { press, takeBack });
 let outbox = null;
 let messages = []; // of the outbox, in the order of their numbers
@@ -33,10 +35,16 @@ let heardAt = 0; // when, by a clock that nobody sets
 let refusal = null; // why the last question for the order got no answer
 let answered = 0; // the number of the last report that is answered
 
+/** What another tab, or this page before, heard of the room. */
 function recall() {
   const { kept: last, ago } = lastRoom(token);
   kept = last;
   heardAt = performance.now() - ago;
+}
+
+function keep(it) {
+  kept = it;
+  keepRoom(token, kept, performance.now() - heardAt);
 }
 
 // ---- drawing
@@ -51,7 +59,9 @@ function draw() {
   if (!shown) return;
   const waits = messages.some((it) => !it.answer) ? ', not sent yet' : '';
   setText(byId('status'), `${STATUSES[shown.status]}${waits}`);
-  drawOrder(shown, notice.note(shown, messages));
+  orderPanel.draw(shown, kept.room.post);
+  place.offer(shown.job ? [reference(shown.job.place, DIGITS)] : []);
+  notice.note(shown);
 }
 
 /** Says that the room is silent, and since when; or at once that it refuses; or that the page has
@@ -66,35 +76,6 @@ function drawTrouble(shown) {
   const ready = words && outbox.state !== 'ready' ? ' The buttons wait for its first answer.' : '';
   setText(byId('trouble'), words + ready);
   document.body.classList.toggle('silent', Boolean(words));
-}
-
-/** The order in large letters. It is drawn anew only where it changes, for it is read aloud. */
-function drawOrder({ status, order: number, isAcknowledged }, taken) {
-  const { order, post } = number === null ? { ...kept.room, order: null } : kept.room;
-  const isNew = status === MOBILISED && !isAcknowledged;
-  const seen = JSON.stringify([order, post, isNew, taken]);
-  if (byId('order').seen === seen) return;
-  byId('order').seen = seen;
-  const wanted = order ? orderWords(order) : [element('p', { class: 'loud' }, 'No order')];
-  if (post !== null) wanted.push(element('p', {}, `Wait at standby point ${post}.`));
-  byId('order').classList.toggle('new', isNew);
-  const words = isNew ? 'New order: press Mobile.' : taken;
-  if (words) wanted.unshift(element('p', { class: 'look' }, words));
-  fill(byId('order'), ...wanted);
-  place.offer(order ? [reference(order.place, DIGITS)] : []);
-}
-
-/** The place to the metre, and as a link to the phone's map. */
-function orderWords({ order, incident, division, class: level, place: there }) {
-  const [, square, east, north] = reference(there, DIGITS).match(/^(..)(.....)(.....)$/);
-  const position = positionOf(there).map((it) => it.toFixed(5)).join();
-  return [
-    element('p', { class: 'row' }, element('strong', { class: 'class', 'data-class': level },
-      `Class ${level}`), `Order ${order}`,
-    element('a', { class: 'target', href: `geo:${position}?q=${position}` }, 'Map')),
-    element('p', { class: 'loud' }, `${square} ${east} ${north}`),
-    element('p', {}, `Incident ${incident} of division ${division}`),
-  ];
 }
 
 // ---- pressing
@@ -171,12 +152,11 @@ async function catchUp() {
     browser may be under way meanwhile. */
 async function hear() {
   const before = await outbox.messages();
-  const answer = await ask('/order');
+  const answer = await askJob();
   refusal = answer.ok ? null : answer;
   if (answer.ok) {
     heardAt = performance.now();
-    kept = heard(kept, answer.content, before);
-    keepRoom(token, kept);
+    keep(heard(kept, answer.content, before));
   }
   return answer;
 }
@@ -204,11 +184,15 @@ function askSoon() {
 
 async function main() {
   recall();
-  addEventListener('storage', ({ key }) => key === roomName(token) && recall());
   let last = Promise.resolve();
   outbox = await openOutbox({ token, path: '/report', member: 'number', hold: HOLD, refuse,
     changed: () => { last = last.then(changed).catch(console.error); } });
   await changed();
+  addEventListener('storage', ({ key }) => {
+    if (key !== roomName(token)) return;
+    recall();
+    draw();
+  });
   setInterval(draw, 500);
   keepFiles();
   askSoon();

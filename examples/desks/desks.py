@@ -82,7 +82,7 @@ def write(folder, known):
 # ---- files
 
 # Modules of the wall that the pages share.
-SHARED = 'ground.js', 'nodes.js', 'words.js'
+SHARED = 'ground.js', 'nodes.js', 'ranks.js', 'words.js'
 
 
 def files():

@@ -3,6 +3,7 @@
 //   read('TQ 303 804')        { place: [530300, 180400] }
 //   read('TQ30380')           { fault: 'length', words: 'A place has six, eight or ten digits.' }
 //   reference([530300, 180400], 6)      'TQ303804'; 8 and 10 digits too; '' outside the squares
+//   toTheMetre([532034, 180467])        'TQ 32034 80467', for people
 //   gridOf(52.65798, 1.71605)           [651409.., 313177..] metres east and north, from WGS84
 //   positionOf([651409, 313177])        the latitude and longitude of it
 //   distance(place, other)    whole metres, rounded down, as the room has it
@@ -53,6 +54,10 @@ export function reference([east, north], digits = 6) {
     String(Math.floor(metres / 10 ** (5 - half))).padStart(half, '0');
   return letters + part(east - west) + part(north - south);
 }
+
+/** A place as the room has it, to the metre; empty outside the room's squares. */
+export const toTheMetre = (place) =>
+  reference(place, 10).replace(/^(..)(.....)(.....)$/, '$1 $2 $3');
 
 export function distance([east, north], [otherEast, otherNorth]) {
   return Math.floor(Math.sqrt((east - otherEast) ** 2 + (north - otherNorth) ** 2));

@@ -1,7 +1,7 @@
 // The field of a place: a reference as typed, or a name of the service's own list, found as one
 // types. Up and down choose among the names found, Tab and Enter take one, Escape shuts the list.
 
-import { reference, read } from './grid.js';
+import { read, toTheMetre } from './grid.js';
 import { element, fill } from './nodes.js';
 
 const SHOWN = 8; // names
@@ -87,7 +87,7 @@ export class PlaceField {
   /** Sets the field to metres of the map, or to a place as it was sent. */
   set({ metres, place, name }) {
     const known = this.places.find((it) => it.name === name && it.place === place);
-    this.input.value = known?.name ?? (metres ? reference(metres) : place);
+    this.input.value = known?.name ?? (metres ? toTheMetre(metres) : place);
     this.typed();
     if (known) this.take(known);
   }

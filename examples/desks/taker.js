@@ -2,6 +2,7 @@
 // to it is shown in large letters.
 
 import { showAnswer, showCalls, showUnkept } from './calls.js';
+import { toTheMetre } from './grid.js';
 import { areasMap, divisionOf } from './map.js';
 import { byId, setText } from './nodes.js';
 import { openOutbox } from './outbox.js';
@@ -24,8 +25,8 @@ let showOnMap = () => {};
 const place = new PlaceField(byId('place'), byId('found'), (metres) => {
   showOnMap(metres);
   const division = metres && areas.length ? divisionOf(areas, metres) : null;
-  const words = division === 0 ? 'This place lies in no division.' : `Division ${division}`;
-  say('place', division === null ? '' : words, Boolean(division));
+  const where = { null: '', 0: ' lies in no division.' }[division] ?? `, division ${division}`;
+  say('place', metres ? `${toTheMetre(metres)}${where}` : '', division !== 0);
 });
 
 /** Says something below a field: what is wrong with it, where it is not fine. */

@@ -1,38 +1,34 @@
 """The pipe by which a room gives its answers, read in the event loop: those that somebody waits for
 soon, and all others when many have come, as each reading has its price."""
 import asyncio
-import collections.abc
-import os
+from collections.abc import Callable
 
-READ = 1 << 18  # bytes that are read at once
 SOON, LATER = 0.001, 0.005  # seconds until the pipe is read again
 LONGEST_LINE = 64  # bytes of the line before an answer
 
 
-class Answers:
+class Answers(asyncio.Protocol):
     """The answers of one run of a room, each taken in turn until it ends, or gives what is none."""
 
-    def __init__(self, source: int, take_all: collections.abc.Callable[[list[bytes]], None]):
-        self.source, self.take_all = source, take_all
-        self.loop = asyncio.get_running_loop()
-        self.left = b''
+    def __init__(self, take_all: Callable[[list[bytes]], None]):
+        self.take_all, self.left = take_all, b''
         self.timer: asyncio.TimerHandle | None = None
-        self.ended: asyncio.Future = self.loop.create_future()
-        os.set_blocking(source, False)
-        self.loop.add_reader(source, self.read)
+        self.ended = asyncio.Event()
 
-    def read(self) -> None:
+    def connection_made(self, transport: asyncio.ReadTransport) -> None:
+        self.transport = transport
+
+    def connection_lost(self, _: Exception | None) -> None:
+        self.ended.set()
+        self.take_all([])  # whoever waits for them looks at once
+
+    def data_received(self, read: bytes) -> None:
         """Takes what is there."""
         try:
-            read = os.read(self.source, READ)
             found, self.left = whole_answers(self.left + read)
             self.take_all(found)
-        except BlockingIOError:
-            return
-        except (OSError, ValueError, IndexError):
-            read = b''  # what it gave is no answer
-        if not read:
-            self.close()
+        except (ValueError, IndexError):
+            self.transport.close()  # what it gave is no answer
 
     def read_at_once(self) -> None:
         """Reads as soon as there is something."""
@@ -42,22 +38,13 @@ class Answers:
 
     def read_in(self, seconds: float) -> None:
         """Reads nothing for so long."""
-        if not self.timer and not self.ended.done():
-            self.loop.remove_reader(self.source)
-            self.timer = self.loop.call_later(seconds, self.go_on)
+        if not self.timer:
+            self.transport.pause_reading()
+            self.timer = asyncio.get_running_loop().call_later(seconds, self.go_on)
 
     def go_on(self) -> None:
         self.timer = None
-        self.loop.add_reader(self.source, self.read)
-
-    def close(self) -> None:
-        if not self.ended.done():
-            if self.timer:
-                self.timer.cancel()
-                self.timer = None
-            self.loop.remove_reader(self.source)
-            os.close(self.source)
-            self.ended.set_result(None)
+        self.transport.resume_reading()
 
 
 def whole_answers(read: bytes) -> tuple[list[bytes], bytes]:

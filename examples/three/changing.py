@@ -9,17 +9,12 @@ import re
 import shutil
 import subprocess
 import tempfile
-import typing
 
 import copies
 from clocks import passed
-from copies import Copy
 from entries import Entry, Place, Record
 from played_room import digest_of, terminals_of
 from said import say
-
-if typing.TYPE_CHECKING:
-    from playing import Player
 
 NEAR = 50  # records by which a copy may be behind the room whose place it takes
 TOKEN = re.compile(rb'X-Terminal: ([A-Za-z0-9]+)')
@@ -58,39 +53,29 @@ def renamed(before: dict, after: dict) -> dict[bytes, bytes]:
 
 
 class Change:
-    """A change that was begun at a record, and the copy in which it is made."""
+    """A change of a room (what its player plays) that was begun at a record, and the copy in which
+    it is made."""
 
-    def __init__(self, room: 'Player', entry: Entry):
-        self.number, self.text = entry.number, entry.records[0].content
-        self.room, self.began = room, passed()
-        self.place, self.answers = Place(entry.number, '', entry.moment), ''
+    def __init__(self, room, entry: Entry):
+        self.room, self.entry, self.number, self.began = room, entry, entry.number, passed()
         self.file: pathlib.Path | None = None
-        self.entries: list[Entry] = []  # since then
+        self.since: list[Entry] = []  # all that follow it
         self.names: dict[bytes, bytes] = {}
-        self.outcome, self.is_failed = b'', False
-        self.player: Player | None = None  # of the copy, once the change is made
-        self.task: asyncio.Task | None = None
+        self.outcome = b''
+        self.player = None  # of the copy, once the change is made
+        self.taking = asyncio.create_task(asyncio.to_thread(self.take))
+        self.task = asyncio.create_task(self.play())
 
-    async def begin(self, file: pathlib.Path) -> None:
+    def take(self) -> None:
         """Takes the files of the room, which has nothing to do meanwhile."""
-        self.answers = self.room.answers[self.number].hex()
-        try:
-            folder = tempfile.mkdtemp(prefix='part.', dir=self.room.how.folder)
-            self.file = pathlib.Path(folder) / 'room.db'
-            await asyncio.to_thread(copies.take, file, self.file.parent)
-            self.task = asyncio.create_task(self.play())
-        except OSError as error:
-            self.fail(error)
-
-    def fail(self, error: OSError) -> None:
-        self.is_failed = True
-        say(f'change {self.number} is not made: {error}', 'change')
+        self.file = pathlib.Path(tempfile.mkdtemp('', 'part.', self.room.how.folder), 'room.db')
+        copies.take(self.room.room.file, self.file.parent)
 
     def made(self) -> str:
         program = self.room.how.program
         digest_of(program, self.file)  # which puts its log into it
         before = terminals_of(self.file)
-        digest, outcome = make(program, self.file, self.text)
+        digest, outcome = make(program, self.file, self.entry.records[0].content)
         after = terminals_of(self.file)
         self.names = renamed(before, after)
         self.room.held = {it for it in before if it not in after and it.encode() not in self.names}
@@ -100,20 +85,22 @@ class Change:
     async def play(self) -> None:
         """Makes the change, and plays what came since, until the copy takes the room's place."""
         try:
+            await self.taking
+            answers = self.room.answers[self.number].hex()
             digest = await asyncio.to_thread(self.made)
         except OSError as error:
-            self.fail(error)
+            say(f'change {self.number} is not made: {error}', 'change')
             return
         if digest:
-            copy = Copy(self.file, self.number, '', self.answers, digest)
-            self.player = self.room.beside(copy, self.place)
-            for it in self.entries:
+            copy = copies.Copy(self.file, self.number, '', answers, digest)
+            self.player = self.room.beside(copy, Place(self.number, '', self.entry.moment))
+            for it in self.since:
                 self.add(it)
             await self.player.play()
 
     def follow(self, entry: Entry) -> None:
         """Plays an entry of the room's too."""
-        self.entries.append(entry)
+        self.since.append(entry)
         if self.player:
             self.add(entry)
 
@@ -136,21 +123,20 @@ class Change:
 
     def ready(self) -> int:
         """Its number where it is, below 0 where this machine can't make it, and else 0."""
-        return -self.number if self.is_failed else self.number * self.is_ready()
+        is_failed = self.task.done() and not (self.outcome or self.task.cancelled())
+        return -self.number if is_failed else self.number * self.is_ready()
 
     async def reach(self) -> None:
         """Waits until the copy has played all that the room has."""
         while not self.is_ready(0):
-            if self.is_failed:
-                raise OSError(f'change {self.number} is not made')
             if self.task.done():
                 self.task.result()
+                raise OSError(f'change {self.number} is not made')
             await asyncio.sleep(0.001)
 
     async def drop(self) -> None:
-        if self.task:
-            self.task.cancel()
-            with contextlib.suppress(Exception, asyncio.CancelledError):
-                await self.task
+        self.task.cancel()
+        with contextlib.suppress(Exception, asyncio.CancelledError):
+            await self.task
         if self.file:
             shutil.rmtree(self.file.parent, ignore_errors=True)

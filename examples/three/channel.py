@@ -1,18 +1,53 @@
-"""A connection to a machine's member of etcd in the companion's event loop: without threads, kept
-from one request to the next, and read as its answers come."""
+"""A connection to a machine's member of etcd in an event loop: JSON by HTTP, by TLS with a
+certificate and by a user where they are given; kept from one request to the next, and read as its
+answers come."""
 import asyncio
-import collections.abc
+import dataclasses
 import json
 import re
+from collections.abc import Callable
 
-from etcd import NoUser, Reach, Unreached, fault_of, take_token
+from certificates import Secured
 
 LENGTH = re.compile(rb'\r\ncontent-length: (\d+)', re.I)
 END = b'\r\n\r\n'
 CONNECTS_WITHIN = 1.0  # seconds, which the member needs no other one for
+TOKEN_WITHIN = 10.0  # seconds
 MOST_LINE = 1 << 25  # bytes of one line of a watch, which is at most what etcd takes of one put
 
-TakeLine = collections.abc.Callable[[bytes], None]
+TakeLine = Callable[[bytes], None]
+
+
+class Unreached(Exception):
+    """The member gave no answer in its time. What was asked of it may still be done, later too."""
+
+
+class NoSpace(Unreached):
+    """etcd's quota is used up."""
+
+
+class NoUser(Unreached):
+    """etcd wants a token of a user, or another one."""
+
+
+@dataclasses.dataclass
+class Reach:
+    """How a member is reached, and the token that its user has at the time."""
+    host: str
+    port: int
+    secured: Secured | None = None
+    user: str = ''
+    password: str = ''
+    token: str = ''
+
+
+def fault_of(status: int, content: bytes) -> Unreached:
+    text = content[:300].decode(errors='replace').strip()
+    if 'space exceeded' in text:
+        return NoSpace(f'etcd: {text}')
+    if re.search('auth token|user name is empty|revision in header is old', text):
+        return NoUser(f'etcd: {text}')
+    return Unreached(f'etcd: {status} {text}')
 
 
 class Wire(asyncio.Protocol):
@@ -31,10 +66,13 @@ class Wire(asyncio.Protocol):
         self.transport = transport
 
     def connection_lost(self, _: Exception | None) -> None:
-        self.transport = None
         self.fail('it closed the connection')
 
     def fail(self, why: str) -> None:
+        """Ends it, as what still comes is no answer of the next request."""
+        if self.transport:
+            self.transport.abort()
+        self.transport = None
         if not self.answered.done():
             self.answered.set_exception(Unreached(f'etcd: {why}'))
             self.answered.exception()  # it is known, also where nobody waits for it
@@ -52,10 +90,9 @@ class Wire(asyncio.Protocol):
     def data_received(self, read: bytes) -> None:
         self.read = self.read + read if self.read else read
         try:
-            while self.read and self.take():
+            while self.take():
                 pass
         except ValueError:
-            self.transport.abort()
             self.fail('it sent what is no answer')
 
     def take(self) -> bool:
@@ -63,24 +100,21 @@ class Wire(asyncio.Protocol):
         there was one."""
         if not self.status:
             return self.take_head()
-        if self.left >= 0:
-            if len(self.read) < self.left:
+        begin, size, more = 0, self.left, 0
+        if size < 0:
+            begin, more = self.read.find(b'\r\n') + 2, 2
+            if begin < more:
                 return False
-            content, self.read = self.read[:self.left], self.read[self.left:]
-            self.end(content)
-            return True
-        end = self.read.find(b'\r\n')
-        if end < 0:
+            size = int(self.read[:begin], 16)
+        if len(self.read) < begin + size + more:
             return False
-        size = int(self.read[:end], 16)
-        behind = end + 2 + size
-        if len(self.read) < behind + 2:
-            return False
-        part, self.read = self.read[end + 2:behind], self.read[behind + 2:]
+        part, self.read = self.read[begin:begin + size], self.read[begin + size + more:]
         if size:
             self.take_part(part)
-        else:
-            self.end(b''.join(self.parts))
+        if not size or self.left > 0:
+            if not self.answered.done():
+                self.answered.set_result((self.status, b''.join(self.parts)))
+            self.status = 0
         return True
 
     def take_head(self) -> bool:
@@ -90,8 +124,6 @@ class Wire(asyncio.Protocol):
         self.status, found = int(self.read[9:12]), LENGTH.search(self.read, 0, end)
         self.read = self.read[end + 4:]
         self.left = int(found[1]) if found else -1
-        if self.left == 0:
-            self.end(b'')
         return True
 
     def take_part(self, part: bytes) -> None:
@@ -104,11 +136,6 @@ class Wire(asyncio.Protocol):
             for it in lines:
                 self.take_line(it)
 
-    def end(self, content: bytes) -> None:
-        if not self.answered.done():
-            self.answered.set_result((self.status, content))
-        self.status = 0
-
 
 class Channel:
     """A connection to the member, for one request at a time, each of which may take so long."""
@@ -118,59 +145,52 @@ class Channel:
         self.wire: Wire | None = None
 
     async def ask(self, path: str, asked: dict) -> dict:
-        """Asks, with a new token of the user where the last one is over."""
-        body = json.dumps(asked).encode()
+        """Asks, with a new token of the user, for all connections, where the last one is over: it
+        costs the member a tenth of a second."""
         try:
-            return json.loads(await self.exchange(path, body))
+            return await self.ask_once(path, asked)
         except NoUser:
             if not self.reach.user:
                 raise
-            await asyncio.to_thread(take_token, self.reach)
-            return json.loads(await self.exchange(path, body))
+            self.reach.token = ''
+            who = {'name': self.reach.user, 'password': self.reach.password}
+            found = await self.ask_once('/v3/auth/authenticate', who, TOKEN_WITHIN)
+            self.reach.token = found['token']
+            return await self.ask_once(path, asked)
 
-    async def exchange(self, path: str, body: bytes) -> bytes:
-        is_answered = False
+    async def ask_once(self, path: str, asked: dict, within: float = 0) -> dict:
+        return json.loads(await self.exchange(path, json.dumps(asked).encode(), within))
+
+    async def exchange(self, path: str, body: bytes = b'', within: float = 0,
+                       take_line: TakeLine | None = None) -> bytes:
+        """The content of an answer with 200 to a POST, or to a GET where there is no body."""
+        if not (self.wire and self.wire.transport):
+            await self.connect()
+        self.wire.take_line = take_line
+        token = f'Authorization: {self.reach.token}\r\n' if self.reach.token else ''
+        # Where a request has no Accept, etcd takes its own certificate for the user's.
+        head = (f'{"POST" if body else "GET"} {path} HTTP/1.1\r\nHost: {self.reach.host}\r\n'
+                f'Accept: application/json\r\n{token}Content-Length: {len(body)}\r\n\r\n')
+        answered = self.wire.send(head.encode() + body)
+        timer = asyncio.get_running_loop().call_later(within or self.within, self.wire.fail,
+                                                      'timed out')
         try:
-            status, content = await self.sent(path, body)
-            is_answered = True
+            status, content = await answered
         finally:
-            if not is_answered:
-                self.close()  # what still comes is no answer of the next request
+            timer.cancel()
         if status != 200:
             raise fault_of(status, content)
         return content
 
     async def connect(self) -> None:
+        secured, loop = self.reach.secured, asyncio.get_running_loop()
         try:
             async with asyncio.timeout(CONNECTS_WITHIN):
-                _, self.wire = await asyncio.get_running_loop().create_connection(
-                    Wire, self.reach.host, self.reach.port, ssl=self.reach.context)
+                _, self.wire = await loop.create_connection(
+                    Wire, self.reach.host, self.reach.port, ssl=secured and secured.context)
         except OSError as error:
             raise Unreached(f'etcd: {str(error) or type(error).__name__}') from None
 
-    async def sent(self, path: str, body: bytes, take_line: TakeLine | None = None) -> tuple:
-        if not (self.wire and self.wire.transport):
-            await self.connect()
-        self.wire.take_line = take_line
-        token = f'Authorization: {self.reach.token}\r\n' if self.reach.token else ''
-        head = (f'POST {path} HTTP/1.1\r\nHost: {self.reach.host}\r\nAccept: application/json\r\n'
-                f'{token}Content-Length: {len(body)}\r\n\r\n')
-        answered = self.wire.send(head.encode() + body)
-        timer = asyncio.get_running_loop().call_later(self.within, self.wire.fail, 'timed out')
-        try:
-            return await answered
-        finally:
-            timer.cancel()
-
     async def hear(self, path: str, asked: dict, take_line: TakeLine) -> None:
         """Hears an answer that has no end, line by line, until the member ends it."""
-        try:
-            status, content = await self.sent(path, json.dumps(asked).encode(), take_line)
-        finally:
-            self.close()
-        raise fault_of(status, content)
-
-    def close(self) -> None:
-        if self.wire and self.wire.transport:
-            self.wire.transport.abort()
-        self.wire = None
+        await self.exchange(path, json.dumps(asked).encode(), 0, take_line)

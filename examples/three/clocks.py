@@ -1,7 +1,7 @@
 """The clocks of a machine: time that passes also while it sleeps, the moment that it gives, and the
 moments that the other machines report."""
-import dataclasses
 import time
+import typing
 
 APART = 60  # seconds that the clocks of two machines may be apart where no third is known
 NEAR = 5  # seconds from the middle at which the own clock counts: others' are heard late
@@ -19,8 +19,7 @@ def moment() -> int:
     return int(time.time())
 
 
-@dataclasses.dataclass(frozen=True)
-class Heard:
+class Heard(typing.NamedTuple):
     """What a machine gave: by the revision of etcd that has it, its moment, and when it was heard
     first. What stood there already is of unknown age, and shows nothing."""
     revision: int

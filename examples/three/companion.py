@@ -14,7 +14,6 @@ the room answers its record. It is not proved; the room that plays is.
   companion.py mend                                  has the list end where its entries do
   companion.py drop-list                             ends the list, for another one
   companion.py user                                  has etcd take nothing without its user"""
-import argparse
 import asyncio
 import functools
 import hashlib
@@ -26,15 +25,14 @@ import signal
 import sys
 import tempfile
 import time
+from argparse import Namespace
 
 import changing
 import copies
 import digest
 import repair
-import words
-from copies import Copy
 from clocks import passed
-from entries import MOST_CHANGE, Entry, Place, Record, first_entry
+from entries import MOST_CHANGE, Place, Record, first_entry
 from etcd import Unreached
 from health import Health, Starting
 from keeping import TRY_EVERY, Keeping
@@ -45,7 +43,7 @@ from playing import Playing
 from said import say
 from terminals import Connections
 from upkeep import CHANGES_WITHIN, OUT, Upkeep
-from words import WAITS, Refused, kept_list
+from words import WAITS, Refused, kept_list, reach_of, words_of
 
 STARTS_EVERY = 1.0  # seconds between two looks at the list, before it has a copy's record
 FLEET_HEAD, PLAN_HEAD = 'callsign,division,kind,place,token', 'what,number,a,b,c,d'
@@ -57,12 +55,12 @@ class NoCopy(Exception):
     """No copy of this machine is in the list."""
 
 
-def begin(given: argparse.Namespace) -> None:
+def begin(given: Namespace) -> None:
     """Makes a room's file the first copy of this machine, and begins the list where it has not
     begun. Each machine does so with the same bytes. Copies of another list are kept aside."""
     copies.make_folder(given.folder)
     kept, before = kept_list(given), copies.copies_in(given.folder)
-    if any(is_listed(kept, it) for it in before):
+    if any(kept.entry(it.number, it.digest) for it in before):
         raise Refused(f'{given.folder} has a copy of the list')
     if not copies.is_alone(given.room):
         raise Refused(f'{given.room} is not closed: it has a log')
@@ -94,7 +92,7 @@ def file_of(who: str, token: str) -> str:
             f'{kind},{name},{token},,,\n')
 
 
-def text_of(given: argparse.Namespace, token: str) -> bytes:
+def text_of(given: Namespace, token: str) -> bytes:
     """A change as the list has it: the program's words, and the lines of its file."""
     if given.command == 'renew':
         return f'renew --since {given.since}\n'.encode()
@@ -107,7 +105,7 @@ def text_of(given: argparse.Namespace, token: str) -> bytes:
     return f'terminals --from\n{file_of(given.new or given.revoke, token)}'.encode()
 
 
-def tried(given: argparse.Namespace, text: bytes) -> None:
+def tried(given: Namespace, text: bytes) -> None:
     """Makes a change in the newest copy of this machine, to refuse it before it is put."""
     if not Record('a', text, 'change').is_whole():
         raise Refused(f'it is no change, or has more than {MOST_CHANGE} bytes')
@@ -140,7 +138,7 @@ def made(kept: KeptList, text: bytes) -> bytes:
     return outcome
 
 
-def change(given: argparse.Namespace) -> None:
+def change(given: Namespace) -> None:
     """Changes the room on all machines, as the program's own command does with one."""
     token = secrets.token_hex(16)
     text = text_of(given, token)
@@ -154,70 +152,55 @@ def change(given: argparse.Namespace) -> None:
 # ---- serving
 
 
-def is_listed(kept: KeptList, copy: Copy) -> Entry | None:
-    """The entry behind which a copy was made, where that is in the list."""
-    entry = kept.entry(copy.number)
-    return entry if entry and entry.place.digest == copy.digest else None
-
-
-def copy_in_list(kept: KeptList, given: argparse.Namespace) -> tuple[Copy, Place]:
+def copy_in_list(kept: KeptList, given: Namespace) -> tuple[copies.Copy, Place]:
     """The newest copy of a folder that is in the list. Those that are newer are set aside: the list
     went back behind them, or the others agree on something else."""
     agreed, found = copies.last_agreed(given.folder), copies.copies_in(given.folder)
     for nth, copy in enumerate(found):
-        if copy.number <= agreed and is_listed(kept, copy):
+        if copy.number <= agreed and kept.entry(copy.number, copy.digest):
             kept.change([], [delete(span(f'{OUT}{given.machine}'))])  # it counts from now on
-            if entry := is_listed(kept, copy):
+            if entry := kept.entry(copy.number, copy.digest):
                 for newer in found[:nth]:
                     say(f'not the room of the list any more: {copies.set_aside(newer)}')
-                copies.note_agreed(given.folder, None)
+                copies.agreed(given.folder).unlink(missing_ok=True)
                 return copy, entry.place
     first, last = kept.ends()
     raise NoCopy(f'the list has records {first} to {last}, and {given.folder} no copy of one of '
                'them: bring a copy of another machine')
 
 
-async def place_to_begin(given: argparse.Namespace, starting: Starting) -> tuple[Copy, Place]:
+async def place_to_begin(given: Namespace, starting: Starting) -> tuple[copies.Copy, Place]:
     """Where the room begins, once etcd answers and the list has a copy's record."""
+    kept = kept_list(given, 0)
     while True:
         try:
-            return await asyncio.to_thread(copy_in_list, kept_list(given, 0), given)
+            return await asyncio.to_thread(copy_in_list, kept, given)
         except (NoCopy, Unreached) as error:
             starting.why = str(error)
             say(error)
             await asyncio.sleep(STARTS_EVERY)
 
 
-async def run(given: argparse.Namespace) -> None:
+async def run(given: Namespace) -> None:
     starting = Starting(given.machine)
     connections = Connections(starting.take)
     await connections.listen(*given.listen)
-    sweeping = asyncio.create_task(connections.sweep())
     copy, place = await place_to_begin(given, starting)
-    how = Playing(given.program, given.folder, given.work, given.copy_every,
-                  given.copy_every * given.machine // given.of)
-    machine = Machine(given, how, copy, place, connections)
-    reach = words.reach_of(given)
+    how = Playing(given.program, given.folder, given.work, given.copy_every, given.machine)
+    machine, reach = Machine(given, how, copy, place, connections), reach_of(given)
     keeping, upkeep = Keeping(machine, reach), Upkeep(machine, reach)
     Health(machine, upkeep)
     for it in signal.SIGTERM, signal.SIGINT:
         asyncio.get_running_loop().add_signal_handler(it, machine.stop)
-    writing = [functools.partial(keeping.keep_asks, it) for it in keeping.writing]
-    await machine.serve(keeping.catch_up, keeping.hear, keeping.watch_over, keeping.follow,
-                        keeping.answer_questions, *writing, upkeep.run)
-    sweeping.cancel()
+    await machine.serve(keeping.catch_up, keeping.hear, keeping.follow, keeping.answer_questions,
+                        *(functools.partial(keeping.keep_asks, it) for it in keeping.writing),
+                        upkeep.run)
 
 
-def serve(given: argparse.Namespace) -> None:
+def serve(given: Namespace) -> None:
     """Serves the newest copy of a folder, which no other does meanwhile."""
-    if not 1 <= given.machine <= given.of:
-        raise Refused(f'there is no machine {given.machine} of {given.of}')
-    copies.make_folder(given.folder)
     given.work = given.work or given.folder / 'work'
-    copies.make_folder(given.work)
     with copies.alone(given.folder), copies.alone(given.work):
-        copies.drop_runs(given.work)
-        copies.drop_runs(given.folder)
         asyncio.run(run(given))
 
 
@@ -229,16 +212,13 @@ COMMANDS = {'begin': begin, 'serve': serve, 'import': change, 'terminals': chang
 
 def main(line: list[str]) -> int:
     os.umask(0o077)  # a room has the tokens of all terminals
-    given = words.words_of(line, __doc__, COMMANDS)
+    given = words_of(line, __doc__, COMMANDS)
     status = 0
     try:
         COMMANDS[given.command](given)
-    except* (Lost, Changed) as error:
+    except* (Lost, Changed, Refused, Unreached, Ended, OSError) as error:
         say(error.exceptions[0])
-        status = LOST
-    except* (Refused, Unreached, Ended, OSError) as error:
-        say(error.exceptions[0])
-        status = 1
+        status = LOST if isinstance(error.exceptions[0], (Lost, Changed)) else 1
     return status
 
 

@@ -1,13 +1,13 @@
 """The copies of a machine's room: files that are named by the record up to which they have played,
 and by the digests of the entry that it ends, of the answers that were given, and of the room."""
-import collections.abc
 import contextlib
-import dataclasses
 import fcntl
 import itertools
 import os
 import pathlib
 import shutil
+import typing
+from collections.abc import Iterator
 
 from entries import Place
 
@@ -16,8 +16,7 @@ LEAST_LOG = 32 + 24 + 512  # bytes of SQLite's log with one page of the smallest
 NO_ANSWERS = '0' * 64
 
 
-@dataclasses.dataclass(frozen=True)
-class Copy:
+class Copy(typing.NamedTuple):
     """A file that holds the room after the entry of this place; and the digests of all answers
     until then, and of the room."""
     file: pathlib.Path
@@ -46,20 +45,17 @@ def make_folder(folder: pathlib.Path) -> None:
 
 
 @contextlib.contextmanager
-def alone(folder: pathlib.Path) -> collections.abc.Iterator[None]:
-    """Has a folder for one companion only."""
+def alone(folder: pathlib.Path) -> Iterator[None]:
+    """Has a folder for one companion only, without what programs that were killed have left."""
+    make_folder(folder)
     with (folder / 'lock').open('w') as lock:
         try:
             fcntl.flock(lock, fcntl.LOCK_EX | fcntl.LOCK_NB)
         except BlockingIOError:
             raise OSError(f'another companion has {folder}') from None
+        for left in [*folder.glob('run.*'), *folder.glob('part.*')]:
+            shutil.rmtree(left, ignore_errors=True)
         yield
-
-
-def drop_runs(folder: pathlib.Path) -> None:
-    """Drops what programs that were killed have left in a folder."""
-    for left in [*folder.glob('run.*'), *folder.glob('part.*')]:
-        shutil.rmtree(left, ignore_errors=True)
 
 
 def sync(path: pathlib.Path) -> None:
@@ -108,20 +104,14 @@ def set_aside(copy: Copy) -> pathlib.Path:
         with contextlib.suppress(FileExistsError):
             os.link(copy.file, aside)
             copy.file.unlink()
-            break
-    return aside
+            return aside
 
 
-def note_agreed(folder: pathlib.Path, number: int | None) -> None:
-    """Notes for the next start from which record on the others agree on something else, or that
-    they do not any more."""
-    if number is None:
-        (folder / 'agreed').unlink(missing_ok=True)
-    else:
-        (folder / 'agreed').write_text(f'{number}\n')
+def agreed(folder: pathlib.Path) -> pathlib.Path:
+    """The file that has, for the next start, up to which record a copy is good, where the others
+    agree on something else since."""
+    return folder / 'agreed'
 
 
 def last_agreed(folder: pathlib.Path) -> float:
-    """The last record up to which a copy is good, for all that was noted."""
-    file = folder / 'agreed'
-    return int(file.read_text()) if file.exists() else float('inf')
+    return float(agreed(folder).read_text() if agreed(folder).exists() else 'inf')

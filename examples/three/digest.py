@@ -2,7 +2,6 @@
 all but that of the zone. The file is one that no program has open.
 
   python3 digest.py ROOM        prints it"""
-import collections.abc
 import contextlib
 import hashlib
 import pathlib
@@ -35,15 +34,6 @@ def of_value(value: None | int | str | bytes) -> bytes:
     return (b'\3' if isinstance(value, str) else b'\4') + of_number(len(text)) + text
 
 
-def of_tables(room: sqlite3.Connection, version: int) -> collections.abc.Iterator[bytes]:
-    for table, key in TABLES.items():
-        if table == 'meta' and version == 1:
-            continue
-        yield of_number(room.execute(f'SELECT count(*) FROM {table}').fetchone()[0])
-        for row in room.execute(f'SELECT * FROM {table} ORDER BY {key}'):
-            yield of_number(len(row)) + b''.join(map(of_value, row))
-
-
 def opened(file: pathlib.Path) -> sqlite3.Connection:
     """Opens a file to be read. Where it has no log, none is made beside it."""
     log = file.with_name(f'{file.name}-wal')
@@ -56,8 +46,13 @@ def of_file(file: pathlib.Path, version: int = 2) -> str:
     """The digest in hexadecimal digits."""
     found = hashlib.sha256()
     with contextlib.closing(opened(file)) as room:
-        for part in of_tables(room, version):
-            found.update(part)
+        for table, key in TABLES.items():
+            if table == 'meta' and version == 1:
+                continue
+            count, = room.execute(f'SELECT count(*) FROM {table}').fetchone()
+            found.update(of_number(count))
+            for row in room.execute(f'SELECT * FROM {table} ORDER BY {key}'):
+                found.update(of_number(len(row)) + b''.join(map(of_value, row)))
     return found.hexdigest()
 
 

@@ -24,12 +24,7 @@ HEAD = re.compile(rb'entry 2 ([0-9a-f]{64}) %b %b %b\n' % (NUMBER, NUMBER, NUMBE
 RECORD = re.compile(rb'([a-z]{1,16}) ([0-9a-z-]{1,64}) %b\n' % NUMBER)
 
 
-class NoEntry(Exception):
-    """What stands there is no entry of the list."""
-
-
-@dataclasses.dataclass(frozen=True, slots=True)
-class Place:
+class Place(typing.NamedTuple):
     """How far a list is known: the number of the last record, and the digest and the moment of the
     entry that has it."""
     number: int
@@ -42,7 +37,8 @@ class Place:
 
 class Record(typing.NamedTuple):
     """What every room plays: a terminal's message; or a change that is begun, or that takes the
-    room's place, by its number, 0 where none does. And by whom it was put there."""
+    room's place, by its number, 0 where none does. And by whom it was put there. (A question is in
+    no list.)"""
     name: str
     content: bytes
     kind: str = 'message'
@@ -110,38 +106,28 @@ def entry_behind(place: Place, moment: int, records: list[Record]) -> Entry:
                  tuple(records))
 
 
-def record_at(text: bytes, at: int) -> tuple[Record, int]:
-    """The record at a place of a text, and the place behind it."""
-    head = RECORD.match(text, at)
-    if not head:
-        raise NoEntry('it has another form')
-    behind = head.end() + int(head[3])
-    record = Record(head[2].decode(), text[head.end():behind], head[1].decode())
-    if text[behind:behind + 1] != b'\n' or not record.is_whole():
-        raise NoEntry('it has no whole records')
-    return record, behind + 1
-
-
-def records_of(text: bytes, at: int, count: int) -> list[Record]:
-    """Whole records, so many, behind a place of a text, which end it."""
+def records_of(text: bytes, at: int) -> list[Record] | None:
+    """The records behind a place of a text, where they are whole, and end it."""
     found = []
-    for _ in range(count):
-        record, at = record_at(text, at)
+    while at < len(text):
+        head = RECORD.match(text, at)
+        behind = head.end() + int(head[3]) if head else at
+        record = head and Record(head[2].decode(), text[head.end():behind], head[1].decode())
+        if not record or text[behind:behind + 1] != b'\n' or not record.is_whole():
+            return None
         found.append(record)
-    if at != len(text):
-        raise NoEntry('something stands behind it')
+        at = behind + 1
     return found
 
 
 @functools.lru_cache(LAST_READ)
-def entry_of(text: bytes) -> Entry:
-    """Reads what stands in the list. Whatever isn't an entry, byte for byte, is refused."""
+def entry_of(text: bytes) -> Entry | None:
+    """Reads what stands in the list. Whatever isn't an entry, byte for byte, is none; nor is a
+    change beside another record."""
     head = HEAD.match(text)
-    if not head or int(head[4]) > MOST_RECORDS:
-        raise NoEntry('it has another form')
-    found = Entry(head[1].decode(), int(head[2]), int(head[3]),
-                  tuple(records_of(text, head.end(), int(head[4]))))
-    if len(found.records) > 1 and not found.has_messages:
-        raise NoEntry('a change stands beside another record')
+    records = records_of(text, head.end()) if head else None
+    if records is None or len(records) != int(head[4]) or len(records) > MOST_RECORDS:
+        return None
+    found = Entry(head[1].decode(), int(head[2]), int(head[3]), tuple(records))
     found.__dict__['text'] = text  # as it would be written
-    return found
+    return found if found.has_messages or len(records) == 1 else None

@@ -1,36 +1,40 @@
 """What a machine asks of the list: it has requests kept, all that wait by one put, learns what
 other machines had kept, and orders questions by what the list has."""
 import asyncio
-import collections.abc
+import contextlib
 import json
 import time
+from collections.abc import Awaitable
 
 import kept_list
-from asks import Ask, numbered
 from channel import Channel
 from clocks import passed
-from entries import MOST_RECORDS, Entry, Place, Record, entry_behind
+from entries import MOST_RECORDS, Entry, Record, entry_behind
 from etcd import Member, Reach, Unreached
-from kept_list import AFTER_LIST, LIST, TXN, Found, KeptList, Lost
-from machine import BEATS_EVERY, Machine
-from playing import Question
+from machine import BEATS_EVERY, Ask, Machine
 from said import say
 
 ETCD_WITHIN = 1.0  # seconds that the member may be silent for, after which it is asked again
 PUT_WITHIN = 0.3  # the same of a put, which goes astray where the leader has just ended
 SLOW = 4  # times as long as a put takes, where etcd is busy
-READ_EVERY = 0.1  # seconds between two readings of a list that does not grow
-TRY_EVERY = 0.1  # seconds until what failed is tried again
+TRY_EVERY = 0.1  # seconds until a list that does not grow is read again, or what failed is tried
 MOST_ALONG = 0.03  # seconds that a question waits for a put to take it along
 
 
 async def pause(until: asyncio.Event, seconds: float) -> None:
     """Waits for an event, or for so long."""
-    try:
+    with contextlib.suppress(TimeoutError):
         async with asyncio.timeout(seconds):
             await until.wait()
-    except TimeoutError:
-        pass
+
+
+async def tried(asking: Awaitable) -> kept_list.Found | bool | None:
+    """What etcd is asked for, or nothing where it is not reached."""
+    try:
+        return await asking
+    except Unreached as error:
+        say(error)
+        return None
 
 
 class Keeping:
@@ -44,17 +48,9 @@ class Keeping:
         self.flying: list[Entry] = []  # the entries that are on their way
         self.put = float('-inf')  # when the last one was put
         self.is_sound = True  # no entry was refused that others on their way are to stand behind
-        self.kept = KeptList(Member(reach, ETCD_WITHIN))  # where it has to be looked at closely
-        self.looking = asyncio.Lock()  # it is one connection
+        # Where it has to be looked at closely, by one connection.
+        self.kept, self.looking = kept_list.KeptList(Member(reach, ETCD_WITHIN)), asyncio.Lock()
         self.to_follow = asyncio.Event()
-
-    async def watch_over(self) -> None:
-        """Looks now and then whether what waits can go on."""
-        machine = self.machine
-        while not machine.is_stopping:
-            await asyncio.sleep(BEATS_EVERY)
-            machine.player.changed.set()
-            machine.to_keep.set()
 
     # ---- writing
 
@@ -75,7 +71,7 @@ class Keeping:
         """Has asks kept, all that wait by one put. Those that were on their way without an answer
         go to the same place again until it is known what stands there, so none is kept twice."""
         machine = self.machine
-        while not machine.is_stopping:
+        while True:
             machine.to_keep.clear()
             machine.learned.clear()
             now = passed()
@@ -95,18 +91,13 @@ class Keeping:
         that came before, by what stands there then."""
         machine = self.machine
         questions, machine.questions = machine.questions, []
-        is_all = is_reached = False
-        try:
-            is_all = await self.keep(by, asks)
-            is_reached = True
-        except Unreached as error:
-            say(error)
+        is_all = await tried(self.keep(by, asks))
         if is_all:
             self.ask_room(questions)
         elif questions:
             machine.questions = questions + machine.questions
             machine.to_ask.set()
-        if not is_reached:
+        if is_all is None:
             await asyncio.sleep(TRY_EVERY)
         machine.to_keep.set()
 
@@ -122,15 +113,14 @@ class Keeping:
         for it in asks:
             it.is_sent = it.is_flying = True
         self.flying.append(entry)
-        began, is_kept = time.monotonic(), False
+        began, found = time.monotonic(), None
         self.put = began
         by.within = min(max(PUT_WITHIN, SLOW * machine.turns.takes), ETCD_WITHIN)
         try:
-            found = kept_list.kept(entry, await by.ask(TXN, kept_list.keeping(
+            found = kept_list.kept(entry, await by.ask(kept_list.TXN, kept_list.keeping(
                 place, entry, machine.seen)))
-            is_kept = found is not None
         finally:
-            self.land(entry, asks, is_kept)
+            self.land(entry, asks, found is not None)
             machine.turns.note_time(time.monotonic() - began)
         if not found:
             return (await self.read(by, True)).is_all
@@ -150,84 +140,69 @@ class Keeping:
 
     # ---- reading
 
-    async def found(self, known: Place, answer: dict, is_latest: bool) -> Found:
-        """What a look at the list gave. Why it doesn't go on from what is known is looked into
-        beside."""
-        found = kept_list.seen(known, answer)
-        if not found:
+    async def read(self, by: Channel, is_latest: bool) -> kept_list.Found:
+        """Learns what the list has, by the member's word or by that of most members. What is in
+        doubt is looked into beside."""
+        known = self.machine.tail.place
+        answer = await by.ask(kept_list.TXN, kept_list.reading(known, is_latest))
+        found = kept_list.seen(known, answer, is_latest)
+        if found.doubt:
             async with self.looking:
                 try:
-                    found = await asyncio.to_thread(self.kept.found, known, answer, is_latest)
-                except Lost as error:
+                    found = await asyncio.to_thread(self.kept.settled, found)
+                except kept_list.Lost as error:
                     self.machine.lose(error)
                     raise Unreached(str(error)) from None
-        return found
-
-    async def read(self, by: Channel, is_latest: bool) -> Found:
-        """Learns what the list has, by the member's word or by that of most members."""
-        known = self.machine.tail.place
-        answer = await by.ask(TXN, kept_list.reading(known, is_latest))
-        found = await self.found(known, answer, is_latest)
         self.machine.learn(found)
         return found
 
     async def read_all(self) -> None:
         """Learns all that the list has, by the word of most members."""
-        while not self.machine.is_stopping:
-            try:
-                found = await self.read(self.questioning, True)
-                if found.is_all:
-                    return
-                if not found.entries:
-                    await asyncio.sleep(READ_EVERY)
-            except Unreached as error:
-                say(error)
+        while True:
+            found = await tried(self.read(self.questioning, True))
+            if found and found.is_all:
+                return
+            if not (found and found.entries):
                 await asyncio.sleep(TRY_EVERY)
 
     async def catch_up(self) -> None:
-        """Plays what the list had as this was asked."""
+        """Has terminals served once what the list has now is played."""
         await self.read_all()
         machine, last = self.machine, self.machine.tail.place.number
-        while not (machine.is_stopping or machine.player.is_open and machine.player.played >= last):
+        while not (machine.player.is_open and machine.player.played >= last):
             await asyncio.sleep(BEATS_EVERY / 2)
+        machine.is_serving = True
+        print('serving', flush=True)
 
     async def follow(self) -> None:
         """Learns of what other machines have had kept, by asking, since a member that reports by
         itself, and hangs, looks like a list that does not grow."""
-        while not self.machine.is_stopping:
+        while True:
             self.to_follow.clear()
-            try:
-                found = await self.read(self.reading, False)
-                if not (found.is_all or found.entries):
-                    await self.read(self.reading, True)  # it is behind, or the list went back
-            except Unreached as error:
-                say(error)
-                await asyncio.sleep(TRY_EVERY)
-                continue
-            if found.is_all or not found.entries:
-                await pause(self.to_follow, READ_EVERY)
+            found = await tried(self.read(self.reading, False))
+            if found and not (found.is_all or found.entries):
+                await tried(self.read(self.reading, True))  # it is behind, or the list went back
+            if not found or found.is_all or not found.entries:
+                await pause(self.to_follow, TRY_EVERY)
 
     async def hear(self) -> None:
         """Hears of entries as the member has them, which is sooner. What is not heard is found by
         asking."""
-        asked = {'create_request': kept_list.span(LIST, AFTER_LIST)}
+        asked = {'create_request': kept_list.span(kept_list.LIST, kept_list.AFTER_LIST)}
         while True:
-            try:
+            with contextlib.suppress(Unreached):  # who asks finds out why, and says it
                 await self.hearing.hear('/v3/watch', asked, self.take_line)
-            except Unreached:
-                await asyncio.sleep(TRY_EVERY)  # who asks finds out why, and says it
+            await asyncio.sleep(TRY_EVERY)
 
     def take_line(self, line: bytes) -> None:
         """Takes what the member reports of the list's keys."""
         result = json.loads(line).get('result', {})
         if result.get('canceled'):
             raise ValueError('it reports no more')
-        known, rows = self.machine.tail.place, []
-        for it in result.get('events', ()):
-            (key, value), = kept_list.pairs({'kvs': [it['kv']]})
-            if key > kept_list.key_of(known.number) and value:
-                rows.append((key, value))
-        entries, foreign = kept_list.linked(known, rows)
+        known = self.machine.tail.place
+        rows = kept_list.pairs({'kvs': [it['kv'] for it in result.get('events', ())]})
+        entries, foreign = kept_list.linked(known, [
+            it for it in rows if it[0] > kept_list.key_of(known.number) and it[1]])
         self.machine.add(entries)
         if foreign:
             self.to_follow.set()
@@ -238,12 +213,12 @@ class Keeping:
         """Has questions answered, which change nothing and take no place in the list: they are
         asked of the room once it has played what the list had after they came, by the word of most
         members. A put says that too, so where one waits it takes them along."""
-        machine = self.machine
-        while not machine.is_stopping:
+        machine, turns = self.machine, self.machine.turns
+        while True:
             await machine.to_ask.wait()
             machine.to_ask.clear()
-            if machine.unkept:
-                await asyncio.sleep(min(machine.turns.round(), MOST_ALONG))
+            if machine.unkept:  # in a turn of each
+                await asyncio.sleep(min(turns.takes * (1 + turns.others()), MOST_ALONG))
             questions, machine.questions = machine.questions, []
             if questions:
                 await self.read_all()
@@ -251,12 +226,5 @@ class Keeping:
 
     def ask_room(self, asks: list[Ask]) -> None:
         """Asks the room once it has played all that is known."""
-        after = self.machine.tail.place.number
-        self.machine.player.ask(after, [Question(it.request.message, self.taking(it))
-                                        for it in asks])
-
-    def taking(self, ask: Ask) -> collections.abc.Callable[[int, bytes], None]:
-        def take(number: int, answer: bytes) -> None:
-            if ask.name in self.machine.unanswered:
-                self.machine.answer(ask, numbered(answer, number))
-        return take
+        self.machine.player.ask(self.machine.tail.place.number, [
+            Record(it.name, it.request.message, 'question') for it in asks])

@@ -2,11 +2,11 @@
 names the last. An entry is put only where the last is the one that its machine has played to. Which
 entry stands where, and what is kept, is etcd's to say."""
 import collections
-import collections.abc
-import dataclasses
 import re
+import typing
+from collections.abc import Iterator
 
-from entries import Entry, NoEntry, Place, Record, entry_behind, entry_of
+from entries import Entry, Place, Record, entry_behind, entry_of
 from etcd import Member, Unreached, coded, decoded
 
 ROOM = 'room/2/'  # by the version of what an entry is
@@ -14,7 +14,7 @@ LIST, AFTER_LIST = f'{ROOM}list/', f'{ROOM}list0'
 HEAD = f'{ROOM}head'  # the place of the last entry
 OUTCOMES = f'{ROOM}outcomes/'  # what became of changes, by their records
 TOLD = 100_000  # records behind a change in which its outcome is told
-MOST_READ = 100  # entries that are read at once
+MOST_READ = 100  # keys that are read at once
 HEAD_FORM = re.compile(rb'(0|[1-9][0-9]{0,11}) ([0-9a-f]{64})')
 
 
@@ -22,15 +22,16 @@ class Lost(Exception):
     """The list is not the one that this machine's room has played, or has gone on without it."""
 
 
-@dataclasses.dataclass(frozen=True)
-class Found:
+class Found(typing.NamedTuple):
     """What a look at the list gave: the entries behind the place that was known, whether they are
-    all, what stands among them and is none, etcd's revision, and why the list can't go on."""
+    all, what stands among them and is none, etcd's revision, and why the list can't go on. Where
+    the list doesn't end with its entries: the place where those end, and its head's row."""
     entries: list[Entry]
     is_all: bool
     foreign: list[str]
     revision: int
     fault: str = ''
+    doubt: tuple[Place, dict] | None = None
 
 
 def key_of(number: int) -> str:
@@ -70,9 +71,13 @@ def get(keys: dict, **more: object) -> dict:
     return {'request_range': keys | more}
 
 
+def value_of(row: dict) -> bytes:
+    return decoded(row.get('value', ''))
+
+
 def pairs(found: dict) -> list[tuple[str, bytes]]:
     """The keys that were found, and what stands there."""
-    return [(decoded(it['key']).decode(errors='replace'), decoded(it.get('value', '')))
+    return [(decoded(it['key']).decode(errors='replace'), value_of(it))
             for it in found.get('kvs', [])]
 
 
@@ -95,11 +100,8 @@ def linked(known: Place | None, rows: list[tuple[str, bytes]]) -> tuple[list[Ent
         return max((it for it in behind[place.digest] if it.follows(place)), key=length,
                    default=None)
     for key, text in reversed(rows):
-        try:
-            entry = entry_of(text)
-        except NoEntry:
-            continue
-        if key == key_of(entry.number):
+        entry = entry_of(text)
+        if entry and key == key_of(entry.number):
             lengths[entry.place.digest] = 1 + length(next_of(entry.place))
             behind[entry.before].append(entry)
     every = [it for some in behind.values() for it in some]
@@ -114,7 +116,7 @@ def linked(known: Place | None, rows: list[tuple[str, bytes]]) -> tuple[list[Ent
 
 # ---- what is asked of etcd, and what its answers say
 
-TXN = '/v3/kv/txn'
+TXN, RANGE = '/v3/kv/txn', '/v3/kv/range'
 
 
 def transaction(holds: list[dict], then: list[dict]) -> dict:
@@ -139,21 +141,21 @@ def keeping(known: Place, entry: Entry, revision: int) -> dict:
 
 def kept(entry: Entry, answer: dict) -> Found | None:
     """What there is once an entry was put, nothing where it was not."""
-    if not answer.get('succeeded'):
-        return None
-    return Found([entry], True, [], int(answer['header']['revision']))
+    revision = int(answer['header']['revision'])
+    return Found([entry], True, [], revision) if answer.get('succeeded') else None
 
 
-def seen(known: Place, answer: dict) -> Found | None:
-    """What looks gave, of one moment; nothing where the list does not end where its entries do."""
+def seen(known: Place, answer: dict, is_latest: bool) -> Found:
+    """What looks gave, of one moment. Where the list doesn't end with its entries, that is in doubt
+    by the word of most members, and shows nothing by that of one, which may have been away."""
     heads, rows = (it['response_range'] for it in answer['responses'])
     entries, foreign = linked(known, pairs(rows))
-    last = entries[-1].place if entries else known
-    head = head_of(pairs(heads)[0][1]) if heads.get('kvs') else None
-    is_all = head is not None and head.text() == last.text()
-    if not is_all and not (rows.get('more') and entries):
-        return None
-    return Found(entries, is_all, foreign, int(answer['header']['revision']))
+    last, head = entries[-1].place if entries else known, (heads.get('kvs') or [{}])[0]
+    revision, is_all = int(answer['header']['revision']), value_of(head) == last.text()
+    if is_all or rows.get('more') and entries:
+        return Found(entries, is_all, foreign, revision)
+    return (Found([], False, foreign, revision, doubt=(last, head)) if is_latest
+            else Found([], False, [], revision))
 
 
 class KeptList:
@@ -167,61 +169,46 @@ class KeptList:
 
     # ---- reading
 
-    def found(self, known: Place, answer: dict, is_latest: bool) -> Found:
-        """What looks gave. A place that is known and not in the list is shown, where most members
-        were asked: one that was away may have less."""
-        found = seen(known, answer)
-        if found:
-            return found
-        heads, rows = (it['response_range'] for it in answer['responses'])
-        entries, foreign = linked(known, pairs(rows))
-        revision = int(answer['header']['revision'])
-        if not is_latest:
-            return Found([], False, [], revision)
-        fault = self.fault(entries[-1].place if entries else known, heads)
-        return Found([], False, [] if fault else foreign, revision, fault)
+    def settled(self, found: Found) -> Found:
+        """What a look gave, once it is looked into where it is in doubt."""
+        fault = self.fault(*found.doubt) if found.doubt else ''
+        return found._replace(foreign=[] if fault else found.foreign, fault=fault)
 
-    def fault(self, last: Place, heads: dict) -> str:
-        """Why the list doesn't end where its entries do, or nothing where its head is foreign, or
-        was not moved, and is mended: nothing was put since."""
-        entry = self.entry(last.number)
-        row = (heads.get('kvs') or [{}])[0]
-        head = head_of(decoded(row.get('value', '')))
+    def fault(self, last: Place, row: dict) -> str:
+        """Why the list doesn't end with its entries, or nothing where its head is foreign, or was
+        not moved, and is mended: nothing was put since. A place that is known and not in the list
+        is shown."""
+        entry, head = self.entry(last.number), head_of(value_of(row))
         if not entry or entry.place != last:
             raise Lost(f'the list went back: it ends at record {head.number if head else 0}, and '
                        f'this room has played {last.number}')
         if not head or head.number < last.number:
             self.change([is_of(HEAD, int(row.get('mod_revision', 0)))], [put(HEAD, last.text())])
             return ''
-        entry = self.entry(head.number)
-        if entry and entry.place.text() == head.text():
+        if self.entry(head.number, head.digest):
             return (f'record {last.number + 1} of the list is gone: bring a copy of another '
                     'machine, or companion.py mend')
         return (f'the list ends at record {last.number}, and its head names another record '
                 f'{head.number}: companion.py mend')
 
     def read(self, known: Place) -> Found:
-        return self.found(known, self.member.ask(TXN, reading(known, True)), True)
+        return self.settled(seen(known, self.member.ask(TXN, reading(known, True)), True))
 
-    def entry(self, number: int) -> Entry | None:
-        """The entry that ends with a record, where there is one."""
-        found = self.member.ask('/v3/kv/range', span(key_of(number)))
-        for _, text in pairs(found):
-            try:
-                return entry_of(text)
-            except NoEntry:
-                return None
-        return None
+    def entry(self, number: int, digest: str = '') -> Entry | None:
+        """The entry that ends with a record, where there is one, of the digest that is given."""
+        found = pairs(self.member.ask(RANGE, span(key_of(number))))
+        entry = entry_of(found[0][1]) if found else None
+        return entry if entry and digest in ('', entry.place.digest) else None
 
-    def rows(self) -> collections.abc.Iterator[tuple[str, bytes]]:
-        """All keys of the list, and what stands there."""
-        first = LIST
-        while first:
-            asked = span(first, AFTER_LIST) | {'limit': MOST_READ}
-            found = self.member.ask('/v3/kv/range', asked)
-            rows = pairs(found)
-            yield from rows
-            first = f'{rows[-1][0]}\0' if found.get('more') else ''
+    def values(self, prefix: str) -> Iterator[tuple[str, bytes, int]]:
+        """What stands under a prefix: the rest of each key, its value and its revision."""
+        asked, is_more = under(prefix) | {'limit': MOST_READ}, True
+        while is_more:
+            found = self.member.ask(RANGE, asked)
+            for row, (key, value) in zip(found.get('kvs', []), pairs(found)):
+                yield key.removeprefix(prefix), value, int(row['mod_revision'])
+                asked['key'] = coded(f'{key}\0')
+            is_more = found.get('more')
 
     def ends(self) -> tuple[int, int]:
         """The numbers of the first entry and of the head."""
@@ -245,9 +232,8 @@ class KeptList:
     def append(self, record: Record) -> int | None:
         """Puts a record at the list's end; gives its number, or none where there is no list. Where
         etcd is silent it is put again at the same place, so it is not there twice."""
-        heads = [head_of(value) for _, value, _ in self.values(HEAD)]
-        entry = self.entry(heads[0].number) if heads and heads[0] else None
-        place = entry.place if entry else None
+        entry = self.entry(self.ends()[1])
+        place = entry and entry.place
         while place:
             found = self.keep(place, 0, [record])
             if found.fault:
@@ -271,9 +257,3 @@ class KeptList:
         answer = self.change([], [delete(span(key_of(0), key_of(number))),
                                   delete(span(OUTCOMES, told))])
         return int(answer['header']['revision'])
-
-    def values(self, prefix: str) -> collections.abc.Iterator[tuple[str, bytes, int]]:
-        """What stands under a prefix: the rest of each key, its value and its revision."""
-        found = self.member.ask('/v3/kv/range', under(prefix))
-        for row, (key, value) in zip(found.get('kvs', []), pairs(found)):
-            yield key.removeprefix(prefix), value, int(row['mod_revision'])

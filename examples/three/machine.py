@@ -2,15 +2,16 @@
 and the room that plays it."""
 import argparse
 import asyncio
-import collections.abc
+import dataclasses
 import secrets
+from collections.abc import Awaitable, Callable
 
-from asks import Ask, no_answer, numbered
 from clocks import OtherClocks, passed
 from copies import Copy
-from entries import Entry, Place, Record
+from entries import Entry, Place
 from kept_list import Found, Lost
-from messages import Request
+from members import NUMBERS
+from messages import Request, no_answer, numbered
 from playing import Player, Playing, Tail
 from said import say
 from terminals import Connections, Reply
@@ -24,7 +25,17 @@ MOST_FOREIGN = 50  # foreign values that are named
 BEATS_EVERY = 0.1  # seconds between two looks at the clock
 HELD = 1.0  # seconds: a look that comes so late shows that this process was held
 
-Doing = collections.abc.Callable[[], collections.abc.Awaitable]
+
+@dataclasses.dataclass(eq=False, slots=True)
+class Ask:
+    """A terminal's request that waits for its answer."""
+    name: str
+    request: Request
+    began: float
+    until: float  # its deadline, by a clock that goes on while the machine sleeps
+    reply: Reply
+    is_sent: bool = False  # it was on its way to the list once, so it may be kept
+    is_flying: bool = False  # it is on its way now
 
 
 class Machine:
@@ -33,15 +44,13 @@ class Machine:
 
     def __init__(self, settings: argparse.Namespace, how: Playing, copy: Copy, place: Place,
                  connections: Connections):
-        self.settings = settings
+        self.settings, self.connections = settings, connections
         self.tail = Tail(copy, place)
         self.player = Player(how, self.tail)
         self.player.give, self.player.lose = self.give, self.lose_questions
-        self.player.is_awaited = lambda entry: entry.machine == settings.machine
         self.clocks = OtherClocks(settings.trust_clock)
         self.player.clock = self.clocks.middle
-        self.connections = connections
-        self.turns = Turns(settings.machine, settings.of)
+        self.turns = Turns(settings.machine, len(NUMBERS))
         self.run, self.asked = f'{settings.machine}-{secrets.token_hex(8)}', 0
         self.unkept: dict[str, Ask] = {}
         self.unanswered: dict[str, Ask] = {}
@@ -55,17 +64,13 @@ class Machine:
         self.lost: Lost | None = None
         self.foreign: set[str] = set()
         self.is_serving = False
-        self.own: collections.abc.Callable[[str], bytes] = lambda _: b''
-        self.note: collections.abc.Callable[[Ask, bytes], None] = lambda *_: None
-
-    @property
-    def is_stopping(self) -> bool:
-        return self.stopping.is_set()
+        self.own: Callable[[str], bytes] = lambda _: b''
+        self.note: Callable[[Ask, bytes], None] = lambda *_: None
 
     def stop(self) -> None:
-        for it in self.stopping, self.to_keep, self.to_ask, self.learned, self.player.changed:
-            it.set()
+        self.stopping.set()
         self.player.is_stopping = True
+        self.player.changed.set()
 
     def lose(self, why: Lost) -> None:
         """Stops where the list went back. The room leaves a copy with all that was answered."""
@@ -81,7 +86,7 @@ class Machine:
         now = passed()
         if now - self.beaten > HELD:
             self.held = now  # before the next beat, as what came meanwhile is read first
-        if self.is_stopping or not self.is_serving:
+        if self.stopping.is_set() or not self.is_serving:
             return self.fault or 'it is not serving'
         if now - self.reached > GONE_AFTER:
             return 'etcd is silent'
@@ -135,10 +140,10 @@ class Machine:
         is_open = self.lost or ask.name in self.unkept
         self.answer(ask, no_answer('no' if not ask.is_sent else 'perhaps' if is_open else 'yes'))
 
-    def give(self, record: Record, number: int, answer: bytes) -> None:
-        """Gives the answer of a record to the terminal that waits for it."""
+    def give(self, name: str, number: int, answer: bytes) -> None:
+        """Gives the room's answer to the terminal that waits for it, by the name of its request."""
         self.moved = passed()
-        ask = self.unanswered.get(record.name)
+        ask = self.unanswered.get(name)
         if ask:
             self.answer(ask, numbered(answer, number))
 
@@ -149,8 +154,9 @@ class Machine:
             self.give_up(ask)
 
     async def beat(self) -> None:
-        """Looks at the clock, to know that this machine was held, and who waits for too long."""
-        while not self.is_stopping:
+        """Looks at the clock, to know that this machine was held, and who waits for too long; and
+        has what waits looked at again."""
+        while True:
             await asyncio.sleep(BEATS_EVERY)
             now = passed()
             if now - self.beaten > BEATS_EVERY + HELD:
@@ -159,6 +165,8 @@ class Machine:
             self.beaten = now
             for ask in [it for it in self.unanswered.values() if now > it.until]:
                 self.give_up(ask)
+            self.player.changed.set()
+            self.to_keep.set()
 
     # ---- the list
 
@@ -191,27 +199,17 @@ class Machine:
 
     # ---- serving
 
-    async def serve(self, catch_up: Doing, hear: Doing, *more: Doing) -> None:
-        """Serves terminals until it is stopped."""
+    async def serve(self, *doings: Callable[[], Awaitable]) -> None:
+        """Answers who asks how it is, and terminals once it serves, until it is stopped."""
+        self.connections.answering = self.take
         async with asyncio.TaskGroup() as group:
-            hearing = group.create_task(hear())
-            for it in self.player.play, self.beat, *more:
-                group.create_task(it())
-            await self.answer_all(catch_up)
-            hearing.cancel()
+            group.create_task(self.player.play())
+            tasks = [group.create_task(it()) for it in (self.beat, *doings)]
+            await self.stopping.wait()
+            for it in tasks:
+                it.cancel()
+            for ask in list(self.unanswered.values()):
+                self.give_up(ask)
+            await self.connections.end()
         if self.lost:
             raise self.lost
-
-    async def answer_all(self, catch_up: Doing) -> None:
-        """Answers who asks how it is at once, and terminals once the room has all that the list
-        has."""
-        self.connections.answering = self.take
-        await catch_up()
-        if not self.is_stopping:
-            self.is_serving = True
-            print('serving', flush=True)
-            await self.stopping.wait()
-        self.connections.listen_no_more()
-        for ask in list(self.unanswered.values()):
-            self.give_up(ask)
-        await self.connections.end()

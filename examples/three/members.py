@@ -1,8 +1,8 @@
 """What each of three machines is given: its member of etcd, and its companion. On one's own all
 three are on loopback; else each has an address."""
-import dataclasses
 import pathlib
 import sys
+import typing
 
 HERE = pathlib.Path(__file__).resolve().parent
 COMPANION = HERE / 'companion.py'
@@ -15,8 +15,7 @@ HEARTBEAT, ELECTION = 50, 400
 Command = list[str | pathlib.Path]
 
 
-@dataclasses.dataclass(frozen=True)
-class Machine:
+class Machine(typing.NamedTuple):
     """One of three: its number, its folder, where its terminals come, its member's addresses for
     the companion and for the other members, and the folder of its certificates."""
     number: int

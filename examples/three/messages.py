@@ -16,6 +16,7 @@ PATH = re.compile(r'/[A-Za-z0-9/-]{0,127}')
 TOKEN = re.compile(r'[A-Za-z0-9]{8,32}')
 FIELD = re.compile(r"([!#$%&'*+.^_`|~0-9A-Za-z-]+):[ \t]*([^\x00-\x08\x0a-\x1f\x7f]*?)[ \t]*")
 OWN = '/health', '/metrics'  # what the companion answers by itself
+BAD = 400, 30, 'BadMessage'
 
 
 def answer_of(status: int, body: str, kind: str = 'application/json') -> bytes:
@@ -27,6 +28,18 @@ def answer_of(status: int, body: str, kind: str = 'application/json') -> bytes:
 
 def json_answer(status: int, content: dict) -> bytes:
     return answer_of(status, json.dumps(content, separators=(',', ':'), sort_keys=True))
+
+
+def no_answer(is_kept: str) -> bytes:
+    """Answers a terminal that there is no answer, and whether its request is kept in the list or
+    will be: no, yes or perhaps."""
+    return json_answer(503, {'error': 'NoAnswer', 'kept': is_kept})
+
+
+def numbered(answer: bytes, number: int) -> bytes:
+    """The room's answer, with the number of the record that it answers, or of the last before."""
+    first, _, rest = answer.partition(b'\r\n')
+    return b'%b\r\nX-Record: %d\r\n%b' % (first, number, rest)
 
 
 class Refused(Exception):
@@ -53,18 +66,14 @@ class Request(typing.NamedTuple):
         return self.method != 'POST'
 
 
-def bad_message() -> Refused:
-    return Refused(400, 30, 'BadMessage')
-
-
 def fields_of(lines: list[str]) -> dict[str, list[str]]:
     if len(lines) > MOST_FIELDS:
-        raise bad_message()
+        raise Refused(*BAD)
     fields: dict[str, list[str]] = {}
     for line in lines:
         found = FIELD.fullmatch(line)
         if not found:
-            raise bad_message()
+            raise Refused(*BAD)
         fields.setdefault(found[1].lower(), []).append(found[2])
     return fields
 
@@ -72,7 +81,7 @@ def fields_of(lines: list[str]) -> dict[str, list[str]]:
 def length_of_body(version: str, fields: dict[str, list[str]]) -> int:
     length, *more = fields.get('content-length', ['0'])
     if more or not re.fullmatch('[0-9]+', length, re.ASCII):
-        raise bad_message()
+        raise Refused(*BAD)
     if 'transfer-encoding' in fields:
         raise Refused(501, 34, 'Coding')
     if version == 'HTTP/1.1' and 'expect' in fields:
@@ -82,34 +91,19 @@ def length_of_body(version: str, fields: dict[str, list[str]]) -> int:
     return int(length)
 
 
-def is_last(version: str, fields: dict[str, list[str]]) -> bool:
-    words = ','.join(fields.get('connection', [])).lower().split(',')
-    return version == 'HTTP/1.0' or 'close' in (it.strip() for it in words)
-
-
-class Head(typing.NamedTuple):
-    """What a request's head says: whose it is, what follows it, what of it the room is handed, and
-    by which refusal the room isn't asked."""
-    token: str
-    method: str
-    path: str
-    is_last: bool
-    length: int
-    written: bytes
-    refusal: tuple[int, int, str] | None
-
-
 @functools.lru_cache(MOST_HEADS)
-def head_of(text: bytes) -> Head:
-    """Reads a head. Terminals send the same ones again and again."""
+def head_of(text: bytes) -> tuple[Request, int, tuple[int, int, str] | None]:
+    """Reads a head. Terminals send the same ones again and again. It gives what is asked as far as
+    the head has it, how many bytes follow, and by which refusal the room isn't asked."""
     first, *lines = text.decode('latin-1').split('\r\n')
     method, path, version = (first.split(' ') + ['', '', ''])[:3]
     fields = fields_of(lines)
     if first.count(' ') != 2 or version not in ('HTTP/1.0', 'HTTP/1.1') or not path:
-        raise bad_message()
+        raise Refused(*BAD)
     if not METHOD.fullmatch(method) or version == 'HTTP/1.1' and len(fields.get('host', [])) != 1:
-        raise bad_message()
-    length, ends = length_of_body(version, fields), is_last(version, fields)
+        raise Refused(*BAD)
+    length, words = length_of_body(version, fields), ','.join(fields.get('connection', []))
+    is_last = version == 'HTTP/1.0' or 'close' in map(str.strip, words.lower().split(','))
     tokens, written, refusal = fields.get('x-terminal', []), b'', None
     if method == 'GET' and path in OWN:
         tokens = ['']
@@ -120,7 +114,7 @@ def head_of(text: bytes) -> Head:
     else:
         written = (f'{method} {path} HTTP/1.1\r\nHost: room\r\nX-Terminal: {tokens[0]}\r\n'
                    f'Content-Length: {length}\r\n\r\n').encode()
-    return Head('' if refusal else tokens[0], method, path, ends, length, written, refusal)
+    return Request(written, '' if refusal else tokens[0], method, path, is_last), length, refusal
 
 
 def next_request(read: bytes) -> tuple[Request | Refused, int] | None:
@@ -132,11 +126,10 @@ def next_request(read: bytes) -> tuple[Request | Refused, int] | None:
         if len(read) > LONGEST_HEAD:
             raise Refused(431, 31, 'HeadTooLong')
         return None
-    head = head_of(read[begin:end])
-    body, behind = end + 4, end + 4 + head.length
+    (written, *head), length, refusal = head_of(read[begin:end])
+    behind = end + 4 + length
     if len(read) < behind:
         return None
-    if head.refusal:
-        return Refused(*head.refusal, head.is_last), behind
-    message = head.written and head.written + read[body:behind]
-    return Request(message, head.token, head.method, head.path, head.is_last), behind
+    if refusal:
+        return Refused(*refusal, head[-1]), behind
+    return Request(written and written + read[end + 4:behind], *head), behind

@@ -2,18 +2,16 @@
 and gives their answers in the same order."""
 import asyncio
 import collections
-import collections.abc
 import contextlib
 import os
 import pathlib
 import shutil
-import signal
 import sqlite3
 import subprocess
 import sys
 import tempfile
 import time
-import typing
+from collections.abc import Callable, Sequence
 
 from answers import LATER, SOON, Answers
 from copies import Copy
@@ -23,8 +21,6 @@ OPENS_WITHIN = 120.0  # seconds in which a program that opens the file has to do
 ANSWERS_WITHIN = 10.0  # seconds until any other is
 ENDS_WITHIN = 30.0  # seconds that the program may take to put its log into its file
 DROPS_WITHIN = 0.5  # seconds that one of no more use may take to end by itself
-
-TakeAll = collections.abc.Callable[[list[tuple[typing.Any, bytes]]], None]
 
 
 class Ended(Exception):
@@ -74,7 +70,7 @@ class PlayedRoom:
     must not meet the files of the next. What it leaves is only used after it has ended well, or
     while it has nothing to do, so its folder may be in memory."""
 
-    def __init__(self, program: str, copy: Copy, work: pathlib.Path, take_all: TakeAll):
+    def __init__(self, program: str, copy: Copy, work: pathlib.Path, take_all: Callable):
         self.program, self.copy, self.take_all = program, copy, take_all
         self.folder = pathlib.Path(tempfile.mkdtemp(prefix='run.', dir=work))
         self.file = self.folder / 'room.db'
@@ -82,24 +78,23 @@ class PlayedRoom:
         self.answers: Answers | None = None
         self.waiting: collections.deque = collections.deque()  # what is not answered yet
         self.awaited = 0  # of these the last that somebody waits for, counted from 1
-        self.heard = time.monotonic()
-        self.within, self.worked = OPENS_WITHIN, 0
+        self.heard, self.within, self.worked = 0.0, OPENS_WITHIN, 0
 
     async def start(self) -> None:
         """Starts the program over the copy."""
         await asyncio.to_thread(shutil.copyfile, self.copy.file, self.file)
         source, sink = os.pipe()
-        self.answers = Answers(source, self.take)
         try:
+            _, self.answers = await asyncio.get_running_loop().connect_read_pipe(
+                lambda: Answers(self.take), os.fdopen(source, 'rb'))
             self.process = await asyncio.create_subprocess_exec(
                 self.program, 'replay', self.file, '--answers', '--history',
                 stdin=asyncio.subprocess.PIPE, stdout=sink, start_new_session=True)
         finally:
             os.close(sink)
         self.process.stdin.write(f'room 2 {self.copy.room}\n'.encode())
-        self.heard = time.monotonic()
 
-    def send(self, moment: int, asked: collections.abc.Sequence, is_awaited: bool) -> None:
+    def send(self, moment: int, asked: Sequence, is_awaited: bool) -> None:
         """Hands the room what has a message, and whether somebody waits for the answers. They are
         taken in turn, or never where the room ends before."""
         if not self.waiting:
@@ -127,35 +122,35 @@ class PlayedRoom:
     def look(self) -> None:
         """Says whether the program is there. (What it is given by a clock that stands still while
         the machine sleeps, as it does itself.)"""
-        if self.answers.ended.done():
+        if self.answers.ended.is_set():
             raise Ended('the room ended')
         if self.within == OPENS_WITHIN and (has_worked := worked(self.process.pid)) > self.worked:
             self.worked, self.heard = has_worked, time.monotonic()
         if self.waiting and time.monotonic() - self.heard > self.within:
             raise Ended('the room is silent')
 
+    async def ended(self, within: float) -> int | None:
+        """The status of the program once it has no more to do, or nothing where it doesn't end."""
+        self.process.stdin.close()
+        with contextlib.suppress(TimeoutError):
+            async with asyncio.timeout(within):
+                return await self.process.wait()
+        return None
+
     async def end(self) -> None:
         """Ends the program, which then has all that it was handed in its file only."""
-        self.process.stdin.close()
-        try:
-            async with asyncio.timeout(ENDS_WITHIN):
-                status = await self.process.wait()
-                await self.answers.ended
-        except TimeoutError:
-            raise Ended('the room does not end') from None
+        status = await self.ended(ENDS_WITHIN)
+        if status is None:
+            raise Ended('the room does not end')
+        await self.answers.ended.wait()
         if status or self.waiting:
             raise Ended(f'the room ended with status {status}')
 
     async def drop(self) -> None:
         """Ends the program if it runs, however it is, and drops its files."""
-        if self.process:
-            self.process.stdin.close()
-            try:
-                async with asyncio.timeout(DROPS_WITHIN):
-                    await self.process.wait()
-            except TimeoutError:
-                self.process.send_signal(signal.SIGKILL)
-                await self.process.wait()
+        if self.process and await self.ended(DROPS_WITHIN) is None:
+            self.process.kill()
+            await self.process.wait()
         if self.answers:
-            self.answers.close()
+            self.answers.transport.close()
         shutil.rmtree(self.folder, ignore_errors=True)

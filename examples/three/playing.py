@@ -2,18 +2,17 @@
 makes a copy of it at each of so many records, not at the same ones on every machine."""
 import asyncio
 import collections
-import collections.abc
-import dataclasses
 import hashlib
 import pathlib
 import shutil
 import typing
+from collections.abc import Callable
 
 import copies
 from changing import OTHERWISE, Change
 from clocks import LAST_MOMENT, moment
-from copies import Copy
 from entries import Entry, Place, Record
+from members import NUMBERS
 from played_room import Changed, Ended, PlayedRoom, digest_of, is_whole
 from said import say
 
@@ -24,34 +23,27 @@ COPIES_AGAIN = 10.0  # seconds until a copy that failed is tried again
 NEVER = 1 << 62  # records until a copy
 FITS = 3  # times a copy's size that is to be free where it is played: it grows, and has a log
 COMMON = 3  # every so many copies, there is one behind the same record on all machines
-NOBODY = (b'GET /queue HTTP/1.1\r\nHost: room\r\nX-Terminal: 00000000\r\n'
-          b'Content-Length: 0\r\n\r\n')
+NOBODYS = Record('', b'GET /queue HTTP/1.1\r\nHost: room\r\nX-Terminal: 00000000\r\n'
+                 b'Content-Length: 0\r\n\r\n', 'question')
 
 
-class Question(typing.NamedTuple):
-    """What a terminal asks the room: its answer is taken with the number of the last record that
-    the room has played, or never where the room ends before."""
-    content: bytes
-    take: collections.abc.Callable[[int, bytes], None]
-
-
-@dataclasses.dataclass(frozen=True)
-class Playing:
+class Playing(typing.NamedTuple):
     """How the room is played."""
     program: str
     folder: pathlib.Path
     work: pathlib.Path
     copy_every: int
-    shift: int  # records by which its copies are before those of a machine without it
+    machine: int  # its number, or 0 for what is played beside
 
     def is_time_to_copy(self, entry: Entry) -> bool:
         """Machines make copies behind different entries, so that not all are busy with it, or have
         no space for it, at once; and some behind the same, by which their rooms are compared."""
         def passes(every: int, shift: int) -> bool:
             return (entry.number + shift) // every > (entry.first - 1 + shift) // every
-        return passes(self.copy_every, self.shift) or passes(COMMON * self.copy_every, 0)
+        shift = self.copy_every * self.machine // len(NUMBERS)
+        return passes(self.copy_every, shift) or passes(COMMON * self.copy_every, 0)
 
-    def where(self, copy: Copy) -> pathlib.Path:
+    def where(self, copy: copies.Copy) -> pathlib.Path:
         """The folder in which a copy is played: that of copies where the other is too small, as a
         folder in memory may be."""
         if shutil.disk_usage(self.work).free >= FITS * copy.file.stat().st_size:
@@ -63,7 +55,7 @@ class Playing:
 class Tail:
     """The list from the newest copy on, as far as this machine knows it."""
 
-    def __init__(self, copy: Copy, place: Place):
+    def __init__(self, copy: copies.Copy, place: Place):
         self.copy, self.place = copy, place
         self.entries: dict[int, Entry] = {}  # by the numbers of their first records
 
@@ -71,7 +63,7 @@ class Tail:
         self.entries[entry.first] = entry
         self.place = entry.place
 
-    def begin_at(self, copy: Copy, sent: int) -> None:
+    def begin_at(self, copy: copies.Copy, sent: int) -> None:
         """Drops the entries that a new copy holds, and the room has been handed: it may have ended
         since, and have begun again from an older copy."""
         self.copy, held = copy, min(copy.number, sent)
@@ -88,23 +80,23 @@ class Player:
         self.questions: collections.deque = collections.deque()
         self.changed = asyncio.Event()
         self.is_stopping = self.wants_copy = self.is_open = self.is_odd = False
-        self.copying: asyncio.Task | None = None
+        self.copying: list[asyncio.Task] = []  # the last one
         self.uncopied = ''  # why the last copy failed
         self.room: PlayedRoom | None = None
         self.change: Change | None = None  # that was begun, and is not made yet
         self.held: set[str] = set()  # tokens that a change takes away: what they ask is not kept
-        # What the time is, and whether terminals of this machine wait for an entry. And what the
-        # machine takes: the answer of a record, that the room ended with all questions that it had,
-        # what became of a change, and a file that no program has open.
-        self.clock: collections.abc.Callable[[], int] = moment
-        self.is_awaited: collections.abc.Callable[[Entry], bool] = lambda _: False
-        self.give: collections.abc.Callable[[Record, int, bytes], None] = lambda *_: None
-        self.lose: collections.abc.Callable[[], None] = lambda: None
-        self.note: collections.abc.Callable[[int, bytes], None] = lambda *_: None
-        self.look_at: collections.abc.Callable[[pathlib.Path], None] = lambda _: None
+        # What the time is; and what the machine takes: the answer of a record or a question, that
+        # the room ended with all questions that it had, what became of a change, and a file that no
+        # program has open.
+        self.clock: Callable[[], int] = moment
+        self.give: Callable[[str, int, bytes], None] = lambda *_: None
+        self.lose: Callable[[], None] = lambda: None
+        self.note: Callable[[int, bytes], None] = lambda *_: None
+        self.look_at: Callable[[pathlib.Path], None] = lambda _: None
 
-    def ask(self, after: int, questions: list[Question]) -> None:
-        """Asks the room once it has played so many records."""
+    def ask(self, after: int, questions: list[Record]) -> None:
+        """Asks the room once it has played so many records. The answers have the number of the
+        last one; there is none where the room ends before."""
         if questions:
             self.questions.append((after, questions))
             self.changed.set()
@@ -117,10 +109,9 @@ class Player:
                 say(error)
                 await asyncio.sleep(TRY_EVERY)
 
-    def beside(self, copy: Copy, place: Place) -> 'Player':
+    def beside(self, copy: copies.Copy, place: Place) -> 'Player':
         """Who plays a copy that is to take the place of this room."""
-        how = dataclasses.replace(self.how, copy_every=NEVER, shift=0)
-        return Player(how, Tail(copy, place))
+        return Player(self.how._replace(copy_every=NEVER, machine=0), Tail(copy, place))
 
     async def play_from_copy(self) -> None:
         copy = self.tail.copy
@@ -128,7 +119,9 @@ class Player:
         self.answers = {copy.number: bytes.fromhex(copy.answers)}
         self.room = PlayedRoom(self.how.program, copy, self.how.where(copy), self.take_all)
         try:
-            await self.start()
+            await asyncio.to_thread(self.look_at, copy.file)
+            await self.room.start()
+            self.room.send(self.moment(), [NOBODYS], True)  # is answered once the room is open
             while not self.is_stopping:
                 await self.feed()
             await self.end()
@@ -144,17 +137,6 @@ class Player:
             await self.drop_change()
             await self.room.drop()
 
-    async def start(self) -> None:
-        """Starts the program. Its first answer, to nobody's question, says that it has opened the
-        room."""
-        await asyncio.to_thread(self.look_at, self.room.copy.file)
-        await self.room.start()
-        self.room.send(self.moment(), [Question(NOBODY, self.note_open)], True)
-
-    def note_open(self, *_: object) -> None:
-        self.is_open = True
-        self.changed.set()
-
     async def feed(self) -> None:
         """Hands the room what is next, or waits for it."""
         room = self.room
@@ -162,15 +144,13 @@ class Player:
         entry = self.tail.entries.get(self.sent + 1)
         if self.questions and self.questions[0][0] <= self.sent:
             room.send(self.moment(), self.questions.popleft()[1], True)
-        elif self.wants_copy and self.may_copy() and not room.waiting:
-            await self.copy(self.place_played())
+        elif self.wants_copy and self.may_copy():
+            await self.copy()
         elif entry and len(room.waiting) < MOST_HANDED:
             await self.hand(entry)
             if self.how.is_time_to_copy(entry):
                 await self.quiet()
                 self.wants_copy = True  # now, or once no change is being made
-                if self.may_copy():
-                    await self.copy(entry.place)
         else:
             self.changed.clear()
             await self.changed.wait()
@@ -181,20 +161,19 @@ class Player:
 
     async def hand(self, entry: Entry) -> None:
         """Hands the room an entry's records."""
+        self.sent = entry.number
         if entry.has_messages:
-            self.room.send(entry.moment, entry.records, self.is_awaited(entry))
+            self.room.send(entry.moment, entry.records, entry.machine == self.how.machine)
             if self.change:
                 self.change.follow(entry)
-            self.sent = entry.number
             return
         await self.quiet()
         [record] = entry.records
-        self.sent = entry.number
         if record.kind == 'change':
             await self.drop_change(b'refused: another change came\n')
             self.change = Change(self, entry)
             self.take_all([(record, b'begun')])
-            await self.change.begin(self.room.file)
+            await asyncio.wait([self.change.taking])
         else:
             self.take_all([(record, await self.take_over(int(record.content)))])
 
@@ -230,17 +209,17 @@ class Player:
             if outcome:
                 await asyncio.to_thread(self.note, change.number, outcome)
 
-    def take_all(self, answered: list[tuple[Record | Question, bytes]]) -> None:
+    def take_all(self, answered: list[tuple[Record, bytes]]) -> None:
         """Takes answers of the room, in its order."""
         for asked, answer in answered:
-            if isinstance(asked, Question):
-                asked.take(self.played, answer)
+            if asked.kind == 'question':
+                self.is_open = True
             else:
                 before = self.answers[self.played]
                 self.answers[self.played + 1] = hashlib.sha256(before + answer).digest()
                 self.answers.pop(self.played - MOST_KNOWN, None)
                 self.played += 1
-                self.give(asked, self.played, answer)
+            self.give(asked.name, self.played, answer)
         if self.played == self.sent:
             self.changed.set()
 
@@ -258,52 +237,41 @@ class Player:
         place of one that is right."""
         return self.played > self.tail.copy.number and not (self.change or self.is_odd)
 
-    async def copy(self, place: Place) -> None:
+    async def copy(self) -> None:
         """Copies the files of the room while it has nothing to do. What is made of them, with a
-        test of every row, takes its time beside the room. A copy that fails stops nothing."""
+        test of every row, takes its time beside the room."""
         self.wants_copy = False
-        if self.copying:
-            await asyncio.wait([self.copying])
+        await asyncio.gather(*self.copying)
         await self.quiet()
-        part = self.how.folder / f'part.{place.number}'
-        try:
-            await asyncio.to_thread(copies.take, self.room.file, part)
-        except OSError as error:
-            self.fail_copy(part, place, error)
+        if not self.may_copy():  # the last one has all
             return
-        answers = self.answers[place.number].hex()
-        self.copying = asyncio.create_task(self.keep_copy(part, place, answers))
+        place = next(it.place for it in self.tail.entries.values() if it.number == self.played)
+        part = self.how.folder / f'part.{place.number}'
+        taking = asyncio.create_task(asyncio.to_thread(copies.take, self.room.file, part))
+        self.copying = [asyncio.create_task(self.keep_copy(taking, part, place))]
+        await asyncio.wait([taking])
 
-    async def keep_copy(self, part: pathlib.Path, place: Place, answers: str) -> None:
+    async def keep_copy(self, taking: asyncio.Task, part: pathlib.Path, place: Place) -> None:
+        """Makes a copy of what is taken. One that fails stops nothing: what it has left is deleted,
+        and another one made later."""
+        answers = self.answers[place.number].hex()
         try:
+            await taking
             room = await asyncio.to_thread(digest_of, self.how.program, part / 'room.db')
             copy = copies.copy_at(self.how.folder, place, answers, room)
             await asyncio.to_thread(copies.keep, part / 'room.db', copy)
+            self.uncopied = ''
+            self.tail.begin_at(copy, self.sent)
         except OSError as error:
-            self.fail_copy(part, place, error)
-            return
-        shutil.rmtree(part, ignore_errors=True)
-        self.uncopied = ''
-        self.tail.begin_at(copy, self.sent)
-
-    def fail_copy(self, part: pathlib.Path, place: Place, error: OSError) -> None:
-        """Deletes what a copy that failed has left, and has another one made later."""
-        shutil.rmtree(part, ignore_errors=True)
-        self.uncopied = f'no copy of record {place.number}: {error}'
-        say(self.uncopied, 'copy')
-        asyncio.get_running_loop().call_later(COPIES_AGAIN, setattr, self, 'wants_copy', True)
+            self.uncopied = f'no copy of record {place.number}: {error}'
+            say(self.uncopied, 'copy')
+            asyncio.get_running_loop().call_later(COPIES_AGAIN, setattr, self, 'wants_copy', True)
+        finally:
+            shutil.rmtree(part, ignore_errors=True)
 
     async def end(self) -> None:
         """Ends the program well, and keeps a copy of what it leaves."""
         await self.quiet()
         await self.room.end()
-        if self.copying:
-            await asyncio.wait([self.copying])
-        if self.may_copy():
-            await self.copy(self.place_played())
-            if self.copying:
-                await asyncio.wait([self.copying])
-
-    def place_played(self) -> Place:
-        """That of the entry that was played last."""
-        return next(it.place for it in self.tail.entries.values() if it.number == self.played)
+        await self.copy()
+        await asyncio.gather(*self.copying)

@@ -5,11 +5,11 @@ authority's key stays where it is.
 
   prepare.py FOLDER 192.0.2.1 192.0.2.2 192.0.2.3
   prepare.py FOLDER 192.0.2.1 192.0.2.2 192.0.2.3 --renew      makes certificates anew"""
-import argparse
 import ipaddress
 import os
 import pathlib
 import sys
+from argparse import ArgumentParser, RawDescriptionHelpFormatter
 
 import certificates
 from members import NUMBERS, Machine
@@ -19,12 +19,6 @@ STATE = pathlib.Path('/var/lib/dispatch-room-three')
 TERMINALS, CLIENTS, PEERS = '127.0.0.1:8080', '127.0.0.1:2379', 2380
 
 
-def machine_at(number: int, addresses: list[str]) -> Machine:
-    """A machine as its own files describe it."""
-    peers = tuple(f'{it}:{PEERS}' for it in addresses)
-    return Machine(number, STATE, TERMINALS, CLIENTS, peers, AT)
-
-
 def member_environment(machine: Machine) -> str:
     """etcd takes each of its words from the environment too."""
     named = {f'ETCD_{name.upper().replace("-", "_")}': value
@@ -32,29 +26,27 @@ def member_environment(machine: Machine) -> str:
     return ''.join(f'{name}={value}\n' for name, value in named.items())
 
 
-def companion_environment(machine: Machine) -> str:
-    return (f'MACHINE={machine.number}\nADDRESS={machine.terminals}\n'
-            f'REACH="{" ".join(map(str, machine.reach()))}"\n')
-
-
 def main() -> int:
-    parser = argparse.ArgumentParser(prog='prepare.py', description=__doc__,
-                                     formatter_class=argparse.RawDescriptionHelpFormatter)
+    parser = ArgumentParser(description=__doc__, formatter_class=RawDescriptionHelpFormatter)
     parser.add_argument('folder', metavar='FOLDER', type=pathlib.Path)
     parser.add_argument('addresses', metavar='ADDRESS', nargs=3, type=ipaddress.ip_address,
                         help='by which the members of etcd reach each other')
     parser.add_argument('--renew', action='store_true',
                         help='make certificates anew, which are good beside those of before')
     words = parser.parse_args()
-    addresses = [f'[{it}]' if it.version == 6 else str(it) for it in words.addresses]
+    peers = tuple(f'[{it}]:{PEERS}' if it.version == 6 else f'{it}:{PEERS}'
+                  for it in words.addresses)
     os.umask(0o077)
     folders = {words.folder / str(it): str(words.addresses[it - 1]) for it in NUMBERS}
     try:
         certificates.make_all(words.folder / 'authority', folders, words.renew)
         for number in NUMBERS:
-            machine, folder = machine_at(number, addresses), words.folder / str(number)
+            machine = Machine(number, STATE, TERMINALS, CLIENTS, peers, AT)
+            folder = words.folder / str(number)
             (folder / 'member.env').write_text(member_environment(machine))
-            (folder / 'companion.env').write_text(companion_environment(machine))
+            (folder / 'companion.env').write_text(
+                f'MACHINE={machine.number}\nADDRESS={machine.terminals}\n'
+                f'REACH="{" ".join(map(str, machine.reach()))}"\n')
     except OSError as error:
         print(f'prepare: {error}', file=sys.stderr)
         return 1

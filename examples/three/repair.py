@@ -1,16 +1,14 @@
 """What an administrator does where one of three machines, or their list, is to be mended."""
 import argparse
-import collections.abc
 import json
 import time
 
-import words
-from etcd import Member, Unreached, take_token
+from etcd import Member, Unreached
 from keeping import TRY_EVERY
-from kept_list import (HEAD, ROOM, KeptList, delete, is_of, is_value, linked, put, span,
+from kept_list import (HEAD, LIST, ROOM, KeptList, delete, is_of, is_value, linked, put, span,
                        under)
 from upkeep import OUT, WORDS
-from words import WAITS, Refused, kept_list
+from words import WAITS, Refused, kept_list, reach_of
 
 PEERS = f'{ROOM}peers/'  # the addresses of members that are replaced
 HEARS = 10.0  # seconds in which a machine that runs reports on itself
@@ -22,7 +20,7 @@ sudo systemctl start dispatch-room-member dispatch-room-companion
 """
 
 
-def wait_for_silence(kept: KeptList, machines: collections.abc.Iterable[str]) -> None:
+def wait_for_silence(kept: KeptList, machines: set[str]) -> None:
     """Refuses where one of the machines goes on reporting on itself, while etcd answers."""
     def heard() -> set[tuple[str, int]]:
         return {(key, revision) for key, _, revision in kept.values(WORDS) if key in machines}
@@ -74,7 +72,7 @@ def mend(given: argparse.Namespace) -> None:
     what is none of them; but not where a machine that counts has played more."""
     kept = kept_list(given)
     revision = max((it for _, _, it in kept.values(HEAD)), default=0)
-    rows = dict(kept.rows())
+    rows = {f'{LIST}{key}': value for key, value, _ in kept.values(LIST)}
     entries, foreign = linked(None, list(rows.items()))
     if not entries:
         raise Refused('the list has no entry')
@@ -93,14 +91,13 @@ def mend(given: argparse.Namespace) -> None:
 
 def user(given: argparse.Namespace) -> None:
     """Makes the user whose name and password are given, and has etcd take nothing else."""
-    member = Member(words.reach_of(given), WAITS)
+    member = Member(reach_of(given), WAITS)
+    who = {'name': given.user, 'password': member.reach.password}
     try:
-        take_token(member.reach)
+        member.ask_once('/v3/auth/authenticate', who)
     except Unreached:  # none is wanted yet
-        for path, asked in (
-                ('user/add', {'name': given.user, 'password': member.reach.password}),
-                ('role/add', {'name': 'root'}),
-                ('user/grant', {'user': given.user, 'role': 'root'})):
+        for path, asked in (('user/add', who), ('role/add', {'name': 'root'}),
+                            ('user/grant', {'user': given.user, 'role': 'root'})):
             try:
                 member.ask_once(f'/v3/auth/{path}', asked)
             except Unreached as error:

@@ -1,8 +1,8 @@
 """The connections of terminals: many at once, each with one request after another, and each within
 its times."""
 import asyncio
-import collections.abc
 import functools
+from collections.abc import Callable
 
 from clocks import passed
 from messages import LONGEST_HEAD, Refused, Request, next_request
@@ -14,8 +14,7 @@ MOST_CONNECTIONS = 1000
 MOST_WAITING = 1 << 16  # bytes behind a request that is not answered yet
 MOST_DRAINED = 1 << 20  # bytes that are thrown away behind the last request
 
-Reply = collections.abc.Callable[[bytes], None]
-Answering = collections.abc.Callable[[Request, Reply], None]
+Reply = Callable[[bytes], None]
 
 
 class Connection(asyncio.Protocol):
@@ -98,18 +97,15 @@ class Connection(asyncio.Protocol):
         if self.transport.is_closing():
             return
         self.transport.resume_reading()
-        self.give(answer, is_last or self.among.is_stopping)
+        self.give(answer, is_last)
         if self.read or self.has_eof:
             asyncio.get_running_loop().call_soon(self.ask_next)
 
     def give(self, answer: bytes, is_last: bool) -> None:
         """Writes an answer. The last one arrives whole: what still comes is read, and thrown
         away."""
-        if is_last:
-            first, _, rest = answer.partition(b'\r\n\r\n')
-            if b'\r\nConnection: close' not in first:
-                first += b'\r\nConnection: close'
-            answer = first + b'\r\n\r\n' + rest
+        if is_last and b'\r\nConnection: close' not in answer:
+            answer = answer.replace(b'\r\n\r\n', b'\r\nConnection: close\r\n\r\n', 1)
         self.transport.write(answer)
         self.until = passed() + (ASKS_WITHIN if is_last or self.read else IDLE)
         if is_last:
@@ -123,15 +119,14 @@ class Connection(asyncio.Protocol):
 class Connections:
     """All connections of terminals."""
 
-    def __init__(self, answering: Answering):
+    def __init__(self, answering: Callable[[Request, Reply], None]):
         self.answering = answering
         self.all: set[Connection] = set()
-        self.is_stopping = False
-        self.listening: asyncio.Server | None = None
 
     async def listen(self, host: str, port: int) -> None:
         self.listening = await asyncio.get_running_loop().create_server(
             lambda: Connection(self), host, port, backlog=MOST_CONNECTIONS)
+        self.sweeping = asyncio.create_task(self.sweep())
 
     async def sweep(self) -> None:
         """Closes what is past its time, for good."""
@@ -141,18 +136,13 @@ class Connections:
             for it in [it for it in self.all if now > it.until]:
                 it.transport.abort()
 
-    def listen_no_more(self) -> None:
-        self.listening.close()
-
     async def end(self) -> None:
-        """Lets those go that wait for no answer, and the others with it."""
-        self.is_stopping = True
+        """Lets all go, none of which waits for an answer any more, once those are written."""
+        self.listening.close()
         for it in list(self.all):
-            if not it.is_asking:
-                it.transport.close()
-        for _ in range(int(ASKS_WITHIN / 0.05)):
-            if not self.all:
-                return
+            it.transport.close()
+        until = passed() + ASKS_WITHIN
+        while self.all and passed() < until:
             await asyncio.sleep(0.05)
 
 

@@ -5,7 +5,6 @@ until it is interrupted, starts again what ends meanwhile, and goes on with the 
 started again.
 
   three.py FOLDER        terminals come to 127.0.0.1:8081, 8082 and 8083"""
-import argparse
 import contextlib
 import os
 import pathlib
@@ -14,12 +13,14 @@ import signal
 import subprocess
 import sys
 import time
+from argparse import ArgumentParser, Namespace, RawDescriptionHelpFormatter
 
 import certificates
 from copies import copies_in
 from members import HERE, Command, Machine, machines
 
 EXAMPLES = HERE.parent
+PORTS = 8080  # the one before those of terminals
 STARTS_WITHIN, ENDS_WITHIN = 60.0, 40.0  # seconds
 LOOKS_EVERY = 1.0  # seconds between two looks at what has ended
 
@@ -36,12 +37,6 @@ def until_done(command: Command) -> None:
         if time.monotonic() > until:
             subprocess.run(command, check=True)
         time.sleep(0.5)
-
-
-def secure(three: list[Machine], folder: pathlib.Path) -> None:
-    """Makes certificates where there are none."""
-    if three[0].certificates and not three[0].certificates.exists():
-        certificates.make_all(folder / 'authority', {it.certificates: '127.0.0.1' for it in three})
 
 
 def first_room(program: str, folder: pathlib.Path) -> pathlib.Path:
@@ -68,7 +63,7 @@ def running(commands: list[Command]):
         yield mend
     finally:
         for it in started:
-            it.send_signal(signal.SIGTERM)
+            it.terminate()
         for it in started:
             with contextlib.suppress(subprocess.TimeoutExpired):
                 it.wait(ENDS_WITHIN)
@@ -76,7 +71,7 @@ def running(commands: list[Command]):
             it.wait()
 
 
-def serve(three: list[Machine], words: argparse.Namespace) -> None:
+def serve(three: list[Machine], words: Namespace) -> None:
     """Serves the room until it is interrupted."""
     with running([it.member() for it in three]) as mend_members:
         room = first_room(words.program, words.folder)
@@ -94,12 +89,9 @@ def serve(three: list[Machine], words: argparse.Namespace) -> None:
 
 
 def main() -> int:
-    parser = argparse.ArgumentParser(prog='three.py', description=__doc__,
-                                     formatter_class=argparse.RawDescriptionHelpFormatter)
+    parser = ArgumentParser(description=__doc__, formatter_class=RawDescriptionHelpFormatter)
     parser.add_argument('folder', metavar='FOLDER', type=pathlib.Path)
     parser.add_argument('--program', default='dispatch_room', help='(%(default)s)')
-    parser.add_argument('--ports', type=int, default=8080,
-                        help='terminals come to the three behind this one (%(default)s)')
     parser.add_argument('--certificates', action='store_true',
                         help='speak TLS to and between the members, by a user of etcd')
     words = parser.parse_args()
@@ -109,8 +101,10 @@ def main() -> int:
     signal.signal(signal.SIGTERM, signal.default_int_handler)
     os.umask(0o077)
     words.folder.mkdir(mode=0o700, parents=True, exist_ok=True)
-    three = machines(words.folder, words.ports, words.certificates)
-    secure(three, words.folder)
+    three = machines(words.folder, PORTS, words.certificates)
+    if words.certificates and not three[0].certificates.exists():
+        certificates.make_all(words.folder / 'authority',
+                              {it.certificates: '127.0.0.1' for it in three})
     with contextlib.suppress(KeyboardInterrupt):
         serve(three, words)
     return 0

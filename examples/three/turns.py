@@ -33,10 +33,6 @@ class Turns:
         now = time.monotonic()
         return sum(now - at < ACTIVE for it, at in self.put.items() if it != self.machine)
 
-    def round(self) -> float:
-        """Seconds that a turn of each takes."""
-        return self.takes * (1 + self.others())
-
     def wait(self) -> float:
         """Seconds until this machine may put: others that are expected to put have their turns
         before."""

@@ -2,24 +2,25 @@
 compares theirs, and keeps the list short and etcd within its quota."""
 import asyncio
 import json
-import secrets
+import re
 import shutil
 import time
+from secrets import token_hex
 
-import clocks
 import copies
 from certificates import WARNED as WARNED_DAYS
-from clocks import passed
+from clocks import moment, passed
 from comparison import Comparison
 from entries import Record
 from etcd import Member, Reach, Sizes, Unreached
-from keeping import ETCD_WITHIN, pause
+from keeping import ETCD_WITHIN
 from kept_list import OUTCOMES, ROOM, KeptList, Lost, put
 from machine import Machine
+from members import NUMBERS
 from said import say
 
 WORDS = f'{ROOM}machines/'  # what each machine reports of itself
-COPIES = f'{ROOM}copies/'  # up to which record each machine has a copy, and one that is sure
+COPIES = f'{ROOM}copies/'  # the records of each machine's newest copy, and of one that is sure
 OUT = f'{ROOM}out/'  # machines that are not counted
 REPORTS_EVERY, REPORTS_WITHIN = 1.0, 5.0  # seconds
 CHANGES_WITHIN = 600.0  # seconds that all machines have to make a change in a copy
@@ -32,25 +33,15 @@ WARNED, FULL = 0.5, 0.8  # parts of the quota: it is reported, and no more is ta
 WASTED = 0.5  # the part of a member's file in use, below which it is made anew
 
 
-def reported_copies(kept: KeptList) -> dict[int, tuple[int, int]]:
-    """The last records of each machine's newest copy, and of the newest that is another's too."""
-    found = {}
-    for key, value, _ in kept.values(COPIES):
-        numbers = [int(it) for it in value.split() if it.isdigit()]
-        if key.isdigit() and numbers:
-            found[int(key)] = numbers[0], [*numbers, 0][1]
-    return found
-
-
 class Upkeep:
     """The upkeep of one machine."""
 
     def __init__(self, machine: Machine, reach: Reach):
         self.machine, self.kept = machine, KeptList(Member(reach, ETCD_WITHIN))
         self.me = machine.settings.machine
-        self.others = [it for it in range(1, machine.settings.of + 1) if it != self.me]
-        self.words: dict[int, dict] = {}  # what the other machines last reported
-        self.comparison = Comparison(machine.settings.of)
+        self.others = [it for it in NUMBERS if it != self.me]
+        self.words: dict[int, dict] = {it: {} for it in self.others}  # what they last reported
+        self.comparison = Comparison(len(NUMBERS))
         self.sizes = Sizes()
         self.settled = 0  # the change that this machine has had taken over, or given up
         self.lost = 0  # copies that were set aside
@@ -59,17 +50,18 @@ class Upkeep:
         self.measured, self.compacted = float('-inf'), passed()
         self.copied = passed()
         self.reported = -1, -1  # the records of copies of which the others have heard
+        self.reporting = KeptList(Member(reach, REPORTS_WITHIN))
         machine.player.note = self.report_outcome
 
     async def run(self) -> None:
-        while not self.machine.is_stopping:
+        while True:
             try:
                 await asyncio.to_thread(self.tend)
             except Lost as error:
                 self.machine.lose(error)
             except (Unreached, OSError) as error:
                 say(error)
-            await pause(self.machine.stopping, REPORTS_EVERY)
+            await asyncio.sleep(REPORTS_EVERY)
 
     def tend(self) -> None:
         """One round of it, on a connection of its own."""
@@ -97,16 +89,18 @@ class Upkeep:
             if days <= WARNED_DAYS:
                 say(f'the certificate {name} ends in {days} days: prepare.py --renew')
 
+    def made(self) -> list[copies.Copy]:
+        return copies.copies_in(self.machine.player.how.folder)
+
     # ---- what the machines report of themselves
 
     def report_word(self) -> None:
         """Shows the others how this machine is, and hears them."""
         machine = self.machine
-        number, made = machine.player.played, copies.copies_in(machine.player.how.folder)
-        answers = machine.player.answers.get(number, b'').hex()
-        change = machine.player.change
-        word = {'clock': clocks.moment(), 'played': number, 'copy': machine.tail.copy.number,
-                'answers': answers, 'rooms': {str(it.number): it.room for it in made},
+        number, change = machine.player.played, machine.player.change
+        word = {'clock': moment(), 'played': number, 'copy': machine.tail.copy.number,
+                'answers': machine.player.answers.get(number, b'').hex(),
+                'rooms': {str(it.number): it.room for it in self.made()},
                 'ready': change.ready() if change else 0}
         self.kept.change([], [put(f'{WORDS}{self.me}', json.dumps(word))])
         machine.agreed = passed()  # most members took it
@@ -114,8 +108,7 @@ class Upkeep:
             if key.isdigit() and int(key) in self.others:
                 self.hear(int(key), value, revision)
         for other in self.others:
-            silent = machine.clocks.silent_for(other)
-            if silent > machine.settings.away_after:
+            if machine.clocks.silent_for(other) > machine.settings.away_after:
                 say(f'machine {other} is away for long: what it lacks is kept, until it is back, '
                     f'or is left out (companion.py leave-out {other})')
 
@@ -125,30 +118,31 @@ class Upkeep:
             word = json.loads(value)
             word |= {it: int(word[it]) for it in ('clock', 'played', 'copy')}
             if self.machine.clocks.hear(other, revision, word['clock']):
-                self.compare_with(other, word['played'], word.get('answers', ''),
-                                  word.get('rooms', {}))
+                self.compare_with(other, word)
             self.words[other] = word
         except (ValueError, KeyError, TypeError, AttributeError):
             say(f'what machine {other} reports of itself is no word of a companion')
 
-    def compare_with(self, other: int, number: int, answers: str, rooms: dict[str, str]) -> None:
+    def compare_with(self, other: int, word: dict) -> None:
         """Compares what a machine reports with this one's room and copies."""
-        own, note = self.machine.player.answers.get(number), self.comparison.note
-        if own and answers:
-            note(other, 'answers', number, own.hex() == answers)
-        for it in reversed(copies.copies_in(self.machine.player.how.folder)):
-            if room := rooms.get(str(it.number)):
+        number, note = word['played'], self.comparison.note
+        own = self.machine.player.answers.get(number)
+        if own and word.get('answers'):
+            note(other, 'answers', number, own.hex() == word['answers'])
+        for it in reversed(self.made()):
+            if room := word.get('rooms', {}).get(str(it.number)):
                 note(other, 'rooms', it.number, room == it.room)
 
     def compare(self) -> None:
         """Takes nothing more where this is the odd one of the machines, or none is known to be."""
-        machine, was_odd = self.machine, self.comparison.odd
+        machine = self.machine
         machine.stopped = self.comparison.judge(
             {it for it in self.others if machine.clocks.silent_for(it) > SILENT})
-        if self.comparison.odd and not was_odd:
+        if self.comparison.odd and not machine.player.is_odd:
             machine.player.is_odd = True
             say(self.comparison.odd)
-            copies.note_agreed(machine.player.how.folder, self.comparison.last_agreed())
+            number = self.comparison.last_agreed()
+            copies.agreed(machine.player.how.folder).write_text(f'{number}\n')
 
     # ---- changes
 
@@ -160,11 +154,10 @@ class Upkeep:
         is_mine = self.machine.is_serving and self.me < min([*there, self.me + 1])
         if not (change and is_mine) or change.number == self.settled:
             return
-        ready = {change.ready(), *(self.words.get(it, {}).get('ready') for it in there)}
+        ready = {change.ready(), *(self.words[it].get('ready') for it in there)}
         is_made = ready == {change.number}
         if is_made or -change.number in ready or passed() - change.began > CHANGES_WITHIN:
-            number = change.number if is_made else 0
-            self.kept.append(Record(secrets.token_hex(8), b'%d' % number, 'taken'))
+            self.kept.append(Record(token_hex(8), b'%d' % (change.number * is_made), 'taken'))
             self.settled = change.number
 
     # ---- copies
@@ -174,15 +167,13 @@ class Upkeep:
         of the one before, or of an older one that was the last to be as another's. Records that all
         have in these go from the list."""
         copy = self.machine.tail.copy
-        made = copies.copies_in(self.machine.player.how.folder)
-        before = made[1].number if len(made) > 1 else 0
-        numbers = copy.number, min(self.comparison.agreed_on('rooms'), before)
+        before = [it.number for it in self.made()[1:2]] or [0]
+        numbers = copy.number, min(self.comparison.agreed_on('rooms'), *before)
         if numbers == self.reported:
             return
         if numbers[0] != self.reported[0]:
             self.copied = passed()
-        entry = self.kept.entry(copy.number)
-        if entry and entry.place.digest == copy.digest:
+        if self.kept.entry(copy.number, copy.digest):
             self.kept.change([], [put(f'{COPIES}{self.me}', '%d %d' % numbers)])
             self.drop()
         self.reported = numbers
@@ -191,20 +182,19 @@ class Upkeep:
         """Lets go of what each machine that counts has in two copies, up to one that was as
         another's, or where space is short in any: so one whose newest is damaged, or whose room is
         found to differ, plays on from that before."""
-        out = {int(key) for key, _, _ in self.kept.values(OUT) if key.isdigit()}
-        reported = reported_copies(self.kept)
-        counted = set(range(1, self.machine.settings.of + 1)) - out
-        if counted and counted <= reported.keys():
-            first = min(reported[it][0 if is_urgent else 1] for it in counted)
+        counted = {str(it) for it in NUMBERS} - {key for key, _, _ in self.kept.values(OUT)}
+        copied = [re.fullmatch(rb'(\d{1,12}) (\d{1,12})', value)
+                  for key, value, _ in self.kept.values(COPIES) if key in counted]
+        if all(copied) and len(copied) == len(counted) > 0:
+            first = min(int(it[1 if is_urgent else 2]) for it in copied)
             revisions = 0 if is_urgent else self.machine.settings.revisions
             self.compact(self.kept.drop_before(first) - revisions)
 
     def report_outcome(self, number: int, outcome: bytes) -> None:
         """Reports what became of a change."""
-        kept = KeptList(Member(self.kept.member.reach, REPORTS_WITHIN))
         say(f'change {number}: {outcome.decode(errors="replace").strip()}')
         try:
-            kept.change([], [put(f'{OUTCOMES}{number:012}', outcome)])
+            self.reporting.change([], [put(f'{OUTCOMES}{number:012}', outcome)])
         except Unreached as reason:
             say(reason)
 
@@ -234,13 +224,9 @@ class Upkeep:
             say(f'etcd has {used} bytes in use and a quota of {quota}', 'quota')
             machine.player.wants_copy = passed() - self.copied > COPIES_APART
             self.drop(True)
-        if alarms or file > WARNED * quota and used < WASTED * file and self.is_my_slot():
+        is_my_slot = int(time.time()) // SLOT % len(NUMBERS) == self.me - 1
+        if alarms or file > WARNED * quota and used < WASTED * file and is_my_slot:
             self.make_room(alarms, quota)
-
-    def is_my_slot(self) -> bool:
-        """Members stop in turn, not all at once."""
-        settings = self.machine.settings
-        return int(time.time()) // SLOT % settings.of == settings.machine - 1
 
     def make_room(self, alarms: list[dict], quota: int) -> None:
         """Gives free pages of the member back, and lets etcd be written again once it has space."""

@@ -7,11 +7,13 @@ import { KINDS, LETTERS, STATUSES } from './words.js';
 const ROW = 12; // units from one row of the key to the next
 
 const path = (className, d) => svgNode('path', { class: className, d });
+const DIAMOND = 'M5 -0.5l5.5 5.5l-5.5 5.5l-5.5 -5.5z';
 const letter = (text) => svgNode('text', { class: 'letter', x: 5, y: 7.8 }, text);
 
 const SIGNS = [
   ...KINDS.map((it, at) => [it, path('kind', outline(at + 1, 0, 2, 10, 6))]),
-  ['incident, class', path('diamond', 'M5 -0.5l5.5 5.5l-5.5 5.5l-5.5 -5.5z'), letter('1')],
+  ['incident, class', path('diamond short', DIAMOND), letter('1')],
+  ['lacks nothing', path('diamond', DIAMOND), letter('1')],
   ['it lacks', path('kind lacks', outline(1, 1, 1, 8, 8)), letter('2')],
   ['standby point', path('kind', 'M0.5 9.5v-5.5l4.5 -4l4.5 4v5.5z')],
 ];

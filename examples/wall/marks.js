@@ -32,6 +32,21 @@ function write(node, text, characters, width) {
   node.setAttribute('lengthAdjust', 'spacingAndGlyphs');
 }
 
+const SHORT = 5; // letters of a callsign that stand in one line
+
+/** Writes a callsign: a long one in two lines, for squeezed to a third it can't be read. */
+function writeCallsign(node, text) {
+  const isLong = text.length > SHORT;
+  set(node, { class: isLong ? 'name long' : 'name' });
+  if (!isLong) return write(node, text, 3, 22);
+  if (node.lastText === text) return undefined;
+  node.lastText = text;
+  node.removeAttribute('textLength');
+  const half = Math.ceil(text.length / 2);
+  return node.replaceChildren(svgNode('tspan', { x: 4, y: -0.6 }, text.slice(0, half)),
+    svgNode('tspan', { x: 4, y: 4.6 }, text.slice(half)));
+}
+
 function mark(...children) {
   const title = svgNode('title');
   const node = svgNode('g', {}, title, ...children);
@@ -52,7 +67,7 @@ export const vehicleMark = {
     set(node, { class: `mark vehicle status-${vehicle.status}` });
     set(node.shape, { d: outline(vehicle.kind, -16.5, -5.5, 33, 11) });
     setText(node.letter, LETTERS[vehicle.status]);
-    write(node.name, vehicle.vehicle, 3, 22);
+    writeCallsign(node.name, vehicle.vehicle);
     setText(node.words, vehicleWords(vehicle, offset));
   },
 };

@@ -1,10 +1,8 @@
 // The queues of the divisions beside the map, each in the room's own order.
 
 import { htmlNode, keep, set, setText } from './nodes.js';
+import { SUBJECTS, isTimed } from './ranks.js';
 import { entryWords, reference, timeOf, wait } from './words.js';
-
-const OF_INCIDENTS = [1, 2, 3]; // the ranks whose number is an incident's
-const POINT_SHORT = 7; // the rank that has no moment
 
 function makeQueue() {
   const name = htmlNode('span');
@@ -42,8 +40,9 @@ function knownTo(desk, lent) {
 
 /** The class and the place of an entry, as far as they are known. */
 function aboutOf(entry, { incidents, points, vehicles, lent }) {
-  if (OF_INCIDENTS.includes(entry.rank)) return incidents.get(entry.number) ?? {};
-  if (entry.rank === POINT_SHORT) return { place: points.get(entry.number)?.place };
+  const subject = SUBJECTS[entry.rank];
+  if (subject === 'Incident') return incidents.get(entry.number) ?? {};
+  if (subject === 'Point') return { place: points.get(entry.number)?.place };
   const held = vehicles.get(entry.vehicle);
   const place = (entry.report ?? held ?? lent.get(entry.vehicle))?.place;
   return { class: incidents.get(held?.incident)?.class, place };
@@ -53,15 +52,15 @@ function updateEntry(node, entry, known, offset) {
   const clock = (moment) => timeOf(moment, offset);
   const [who, why] = entryWords(entry, clock);
   const { class: level, place } = aboutOf(entry, known);
-  const isTimed = entry.rank !== POINT_SHORT;
   set(node, { 'data-rank': entry.rank,
-    title: `${who}: ${why}${isTimed ? `, since ${clock(entry.since)}` : ''}` });
+    title: `${who}: ${why}${isTimed(entry.rank) ? `, since ${clock(entry.since)}` : ''}` });
   set(node.level, { 'data-class': level ?? '', title: level ? `class ${level}` : 'no class' });
   setText(node.level, String(level ?? '\u2013'));
   setText(node.who, who);
   setText(node.place, place ? reference(place) : 'place not known');
   setText(node.why, why);
-  setText(node.time, isTimed ? wait(Math.max(0, known.moment - entry.since)) : '');
+  const age = Math.max(0, known.moment - entry.since);
+  setText(node.time, isTimed(entry.rank) ? wait(age) : '');
 }
 
 function updateQueue(node, { desk, entries }, known, offset) {

@@ -2,16 +2,16 @@
 // the queues and on no page that turns.
 
 import { htmlNode, keep, set, setText } from './nodes.js';
+import { UNSERVED } from './ranks.js';
 import { reference, wait } from './words.js';
 
-const NOBODY_SENT = 1; // the rank of the queue
 const SHOWN = 8; // lines, so that the queues keep their part
 
 /** The entries of that rank with their incidents, by class and then by how long they wait. */
 function urgentOf(desks) {
   const found = desks.flatMap(({ division, moment, queue, incidents }) => {
     const known = new Map(incidents.map((it) => [it.number, it]));
-    return queue.filter((it) => it.rank === NOBODY_SENT).map(({ number, since }) => ({ division,
+    return queue.filter((it) => it.rank === UNSERVED).map(({ number, since }) => ({ division,
       number, age: Math.max(0, moment - since), level: known.get(number)?.class ?? null,
       place: known.get(number)?.place ?? null }));
   });

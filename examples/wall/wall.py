@@ -141,7 +141,7 @@ class Reader(threading.Thread):
 # ---- serving the page
 
 FILES = ['wall.html', 'wall.css', 'wall.js', 'ground.js', 'key.js', 'map.js', 'marks.js',
-         'nodes.js', 'pages.js', 'places.js', 'queues.js', 'urgent.js', 'words.js']
+         'nodes.js', 'pages.js', 'places.js', 'queues.js', 'ranks.js', 'urgent.js', 'words.js']
 
 def offset_now():
     """Seconds that the plan's zone, which is this process's, is ahead of UTC."""

@@ -1,5 +1,8 @@
 // What things of the room are called: the words on the page and under the pointer.
 
+import { LATE_FOR_SCENE, OUT_OF_TURN, OVERDUE, SHIFT_OVER, UNACKNOWLEDGED, UNANSWERED, UNCOVERED,
+  UNSERVED } from './ranks.js';
+
 export const KINDS = ['ambulance', 'car', 'support vehicle'];
 export const STATUSES = ['off duty', 'available', 'mobilised', 'at scene', 'leaving', 'at hospital',
   'returning', 'offered'];
@@ -51,15 +54,15 @@ export function vehicles(numbers) {
 
 // What needs an eye, by rank: what it is about, and what is the matter.
 const ENTRIES = {
-  1: (it) => [`Incident ${it.number}`, 'nobody sent'],
-  2: (it) => [it.vehicle, `order not acknowledged, incident ${it.number}`],
-  3: (it) => [it.vehicle, `late for incident ${it.number}`],
-  4: (it, clock) => [it.vehicle, it.report ? reportWords(it, clock)
+  [UNSERVED]: (it) => [`Incident ${it.number}`, 'nobody sent'],
+  [UNACKNOWLEDGED]: (it) => [it.vehicle, `order not acknowledged, incident ${it.number}`],
+  [LATE_FOR_SCENE]: (it) => [it.vehicle, `late for incident ${it.number}`],
+  [OUT_OF_TURN]: (it, clock) => [it.vehicle, it.report ? reportWords(it, clock)
     : `report ${it.number} came out of turn`],
-  5: (it) => [it.vehicle, `loan is over, division ${it.number}`],
-  6: (it) => [it.vehicle, 'shift is over'],
-  7: (it) => [`Point ${it.number}`, 'short of cover'],
-  8: (it) => [it.vehicle, `offer not answered, division ${it.number}`],
+  [OVERDUE]: (it) => [it.vehicle, `loan is over, division ${it.number}`],
+  [SHIFT_OVER]: (it) => [it.vehicle, 'shift is over'],
+  [UNCOVERED]: (it) => [`Point ${it.number}`, 'short of cover'],
+  [UNANSWERED]: (it) => [it.vehicle, `offer not answered, division ${it.number}`],
 };
 
 /** What a report was that wants an eye: its button, what came of it, and of which order. */

@@ -6,8 +6,8 @@ from . import sources
 
 # The types of what stands in an answer by another function than its own.
 TYPES = {'kind_number': 'Kind', 'status_number': 'Status', 'state_number': 'State',
-         'merged_into': 'Option<Number>', 'button_name': 'Button', 'outcome_name': 'Outcome',
-         'callsign_or_empty': 'CallsignOrEmpty', 'of_integer': 'i64'}
+         'rank_number': 'Rank', 'merged_into': 'Option<Number>', 'button_name': 'Button',
+         'outcome_name': 'Outcome', 'callsign_or_empty': 'CallsignOrEmpty', 'of_integer': 'i64'}
 
 STRUCT = re.compile(r'^abbrev pub \w+_json : (\w+) → Data\n\w+_json (\w+) =\s+object_of \($'
                     r'(.*?)∷ \[\]\)', re.M | re.S)

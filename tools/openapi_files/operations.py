@@ -33,12 +33,13 @@ SUMMARIES = {
     'Offers': 'The offers in which the division lends or borrows.',
     'Times': 'The incidents of a day, each with the seconds to its first order.',
     'Order': "The vehicle's order, its post and its status.",
+    'Job': 'The order, with the class of its incident and the notes of its calls.',
     'Report': 'A button was pressed.',
     'Last': 'The last numbers of the terminal, where one that replaces it goes on.'}
 
 # The answers that are named otherwise than their path; all other paths are answered `Done`.
 ANSWERS = {'Call': ['Called'], 'Propose': ['Proposals'], 'Mobilise': ['Mobilised'],
-           'Report': ['Reported'], 'Last': ['LastReport', 'LastSerial']}
+           'Report': ['Reported'], 'Job': ['Job', 'Order'], 'Last': ['LastReport', 'LastSerial']}
 
 PARAMETERS = {'Number': 'The number of an incident.', 'Callsign': 'The callsign of a vehicle.',
               'PointNumber': 'The number of a standby point.', 'Day': "A day of the plan's zone."}

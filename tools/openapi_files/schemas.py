@@ -48,8 +48,8 @@ def named(name):
 # ---- by types
 
 
-# Of the words of the machine those that an answer has: a rank is one of eight.
-WORDS = {'u8': (1, 8), 'u32': (0, 2 ** 32 - 1), 'u64': (0, None), 'i64': (None, None)}
+# Of the words of the machine those that an answer has.
+WORDS = {'u32': (0, 2 ** 32 - 1), 'u64': (0, None), 'i64': (None, None)}
 
 MEANINGS = {'Class': '1 is the most urgent.', 'LastNumber': '0 where there is none.',
             'Moment': 'Whole seconds of UTC since 1970.'}
@@ -132,7 +132,7 @@ def answered(name):
         return or_null(held[2]) if held[1] == 'Option' else listed(answered(held[2]))
     if name in contents.structs() or name in ANSWERED:
         return named(ANSWERED.get(name, name))
-    if name in ('Kind', 'Status', 'State'):
+    if name in ('Kind', 'Status', 'State', 'Rank'):
         return code(name)
     booleans = {'bool': {'type': 'boolean'}, 'true': {'type': 'boolean', 'enum': [True]}}
     return booleans.get(name) or of_both(name)
@@ -147,10 +147,12 @@ def of_struct(name):
 
 
 def answers():
-    """The schemas of answers and of their parts, by name, but for parts that may be null."""
+    """The schemas of answers and of their parts, by name, but for those that may be null wherever
+    they stand."""
     found = {**contents.structs(), **contents.answers()}
     types = {it for members in found.values() for it in members.values()}
-    return {name: of_members(it) for name, it in found.items() if f'Option<{name}>' not in types}
+    return {name: of_members(it) for name, it in found.items()
+            if name in types or f'Option<{name}>' not in types}
 
 
 def refusal(name, number_of_it):

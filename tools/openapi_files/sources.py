@@ -70,7 +70,8 @@ def names_of(kind):
 
 def numbers_of(kind):
     """The numbers by which the values of an enum are sent, and what they stand for."""
-    found = re.findall(rf'{kind}::(\w+)(?:\(_\))? => (\d+),', crate('room_types/src/codes.rt'))
+    text = crate(f'room_types/src/{"ranks" if kind == "Rank" else "codes"}.rt')
+    found = re.findall(rf'{kind}::(\w+)(?:\(_\))? => (\d+),', text)
     return {int(number): name for name, number in found}
 
 
@@ -92,7 +93,7 @@ def methods():
 
 def paths_of_history():
     text = function(crate('room_http_requests/src/request_table.rt'), 'is_of_history')
-    return re.findall(r'Path::(\w+)', re.search(r'matches!\((.*)\)', text)[1])
+    return re.findall(r'Path::(\w+)', re.search(r'matches!\((.*?)\)', text, re.S)[1])
 
 
 def parameters():

@@ -12,15 +12,18 @@ use Rattle.room_types.specs.declared.asks.NewCall.{NewCall}
 use Rattle.room_types.specs.declared.asks.Press.{Press}
 use Rattle.room_types.specs.declared.asks.Who.{Who}
 use Rattle.room_types.specs.declared.asks.Who.TheVariants.{Crew, Desk, Position}
+use Rattle.room_types.specs.declared.tables.Assignment.{Assignment}
 use Rattle.room_types.specs.declared.tables.Call.{Call}
 use Rattle.room_types.specs.declared.tables.Report.{Report}
 use Rattle.room_types.specs.declared.tables.Vehicle.{Vehicle}
 use Rattle.room_model.proofs.AskLaws.{asked_same}
 use Rattle.room_model.proofs.Tests.{either_true, filter_among}
 use Rattle.room_model.proofs.Sights.{SeesAsked}
+use Rattle.room_model.proofs.SliceLaws.{order_active}
 use Rattle.room_model.specs.Calls.{call_in, call_kept, call_somewhere, call_taken, new_call}
 use Rattle.room_model.specs.Calls.{take_call}
-use Rattle.room_model.specs.Decisions.{refuse_if, show}
+use Rattle.room_model.specs.CrewJobs.{job_in, job_of, show_job}
+use Rattle.room_model.specs.Decisions.{refuse_if, show, where_found}
 use Rattle.room_model.specs.Queries.{all_held, assignment_at, assignment_of, borrowed, held}
 use Rattle.room_model.specs.Queries.{kept_call, kept_report, last_number, loans_of, offered_by}
 use Rattle.room_model.specs.Queries.{offered_to, offers_of, point_of, points_of, report_of}
@@ -29,17 +32,19 @@ use Rattle.room_model.specs.Queue.{clear, clear_found}
 use Rattle.room_model.specs.Reports.{report_held, report_in, report_kept, report_somewhere}
 use Rattle.room_model.specs.Reports.{take_report}
 use Rattle.room_model.specs.Room.{Room}
-use Rattle.room_model.specs.Step.{crew_asks, desk_asks, position_asks, who_asks}
+use Rattle.room_model.specs.Step.{desk_asks, position_asks, who_asks}
 use Rattle.room_model.specs.RoomAgreements.{IsWellFormed}
 use Rattle.room_model.specs.WorkingRows.{NamedIncidents, NoIncident, OneIncident, TwoIncidents}
 use Rattle.room_model.specs.WorkingRows.{incidents_named, is_among}
 use Rattle.dispatch_room_archive.proofs.AskedAlike.{actives_same, calls_same, cover_same}
-use Rattle.dispatch_room_archive.proofs.AskedAlike.{eligible_same, kept_call_same, kept_report_same}
+use Rattle.dispatch_room_archive.proofs.AskedAlike.{eligible_same, incident_same, kept_call_same}
+use Rattle.dispatch_room_archive.proofs.AskedAlike.{kept_report_same}
 use Rattle.dispatch_room_archive.proofs.AskedAlike.{left_false, none_passes, of_both}
 use Rattle.dispatch_room_archive.proofs.AskedAlike.{open_turn_same, opened_same, right_false}
 use Rattle.dispatch_room_archive.proofs.AskedAlike.{sees_same, shown_stays, target_same, turns_same}
 use Rattle.dispatch_room_archive.proofs.AskedAlike.{vehicle_same}
 use Rattle.dispatch_room_archive.proofs.QueueAlike.{entries_same}
+use Rattle.dispatch_room_archive.proofs.RenewedAgreements.{active_stays}
 use Rattle.dispatch_room_archive.proofs.RowsLeft.{report_gone}
 use Rattle.dispatch_room_archive.specs.Continuation.{IsSettled, StaysBehind, asks_back, looks_back}
 use Rattle.dispatch_room_archive.specs.Continuation.{names_behind, sends_again, stayed_behind}
@@ -175,10 +180,27 @@ module _ (since : ℕ) (b : Behind) (r : Room) (w : IsWellFormed r) (h : StaysBe
       of (Some k) = refl
       of None = placed (vehicle_at c r)
 
+  -- its order's incident is active, so it is there with its calls
+  order_same : (c : Callsign) (o : Option Assignment) → assignment_at c r ≡ o
+      → job_in new o ≡ job_in r o
+  unfolding assignment_at
+  order_same c None e = refl
+  order_same c (Some a) e =
+      let spared = active_stays since b r w h a.division a.incident (order_active r w c a e) in
+      λ i v.
+      job_of v a (incident_same since b r w h a.division a.incident spared i)
+      (calls_same since b r w h a.division a.incident spared i)
+
+  job_same : (c : Callsign) → show_job c new ≡ show_job c r
+  unfolding vehicle_at assignment_at
+  job_same c =
+      ap (where_found (vehicle_at c r) refusal.NoSuchVehicle) (order_same c (assignment_at c r) refl)
+
   crew_same : (c : Callsign) (a : Ask) (at : ℕ) → sends_again b (Crew c) a ≡ false
-      → crew_asks c a at new ≡ crew_asks c a at r
+      → who_asks (Crew c) a at new ≡ who_asks (Crew c) a at r
   unfolding vehicle_at assignment_at
   crew_same c ask.Order at e = refl
+  crew_same c ask.Job at e = job_same c
   crew_same c (ask.Report p) at e = report_same c p at e
   crew_same c ask.Last at e = refl
   crew_same c a at e = refl

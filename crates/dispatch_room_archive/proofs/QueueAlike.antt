@@ -1,6 +1,6 @@
 -- The queue is the same without what stays behind.
 use Rattle.std.proofs.Common.{ap, eqb-true, sym, ◌∙◌}
-use Rattle.std.specs.Prelude.{Bool, None, Option, Some, cond, false, filter_map, nat_lt, not, refl}
+use Rattle.std.specs.Prelude.{Bool, None, Option, Some, cond, false, filter_map, not, refl}
 use Rattle.std.specs.Prelude.{true, ℕ, ◌&&◌, ◌++◌, ◌==◌, ◌||◌, ◌≡◌}
 use Rattle.room_types.specs.Codes.{is_active, is_mobilised, is_normal}
 use Rattle.room_types.specs.declared.answers.QueueEntry.{QueueEntry}
@@ -12,8 +12,9 @@ use Rattle.room_types.specs.declared.tables.Vehicle.{Vehicle}
 use Rattle.room_model.proofs.Tests.{among_filter, and_same, filter_map_among}
 use Rattle.room_model.specs.Moments.{age}
 use Rattle.room_model.specs.Queries.{holders, open_turn}
-use Rattle.room_model.specs.Queue.{entries, exception, overdue, shift_over, slow, slow_incident}
-use Rattle.room_model.specs.Queue.{slow_turn, unanswered, uncovered, unread, unread_turn, unserved}
+use Rattle.room_model.specs.Queue.{entries, exception, overdue, shift_over, late_for_scene}
+use Rattle.room_model.specs.Queue.{late_incident, late_turn, unanswered, uncovered, unacknowledged}
+use Rattle.room_model.specs.Queue.{unacknowledged_turn, unserved}
 use Rattle.room_model.specs.Room.{Room}
 use Rattle.room_model.specs.RoomAgreements.{IsWellFormed}
 use Rattle.dispatch_room_archive.proofs.AskedAlike.{active_among, filter_map_passing, found_stays}
@@ -22,6 +23,8 @@ use Rattle.dispatch_room_archive.proofs.AskedAlike.{served_same}
 use Rattle.dispatch_room_archive.proofs.LeftBehind.{from_left, from_not, not_true}
 use Rattle.dispatch_room_archive.specs.Continuation.{StaysBehind}
 use Rattle.dispatch_room_archive.specs.Successor.{Behind, without}
+use Rattle.room_types.specs.Ranks.{is_past}
+use Rattle.room_types.specs.declared.ranks.Rank.TheVariants as rank
 
 -- what is not active is not unserved
 idle_none : (mine active more : Bool) (e : QueueEntry) → active ≡ false
@@ -46,10 +49,12 @@ module _ (since : ℕ) (b : Behind) (r : Room) (w : IsWellFormed r) (h : StaysBe
   unserved_by : (i : Incident) → b.incident i.division i.number ≡ false
       → unserved d at new i ≡ unserved d at r i
   unserved_by i spared =
-      ap (λ (x : Bool). cond x (Some (record { rank = 1; since = i.opened; number = i.number; callsign = None })) None)
+      ap (λ (x : Bool).
+      cond x (Some (record { rank = rank.Unserved; since = i.opened; number = i.number; callsign = None })) None)
       (and_same (i.division == d) _ _ (λ mine.
       ap (λ (n : Kind → ℕ).
-      is_active i.state && ((n Ambulance == 0 && (n Car == 0 && n Support == 0)) && nat_lt 180 (age at i.opened)))
+      is_active i.state
+      && ((n Ambulance == 0 && (n Car == 0 && n Support == 0)) && is_past rank.Unserved (age at i.opened)))
       (λ j k.
       served_same since b r w h d i.number (ap (λ x. b.incident x i.number) (sym (eqb-true i.division d mine)) ∙ spared)
       k j)))
@@ -66,25 +71,26 @@ module _ (since : ℕ) (b : Behind) (r : Room) (w : IsWellFormed r) (h : StaysBe
       let spared = active_among since b r w h i m f in
       let stayed : not (b.incident i.division i.number) ≡ true = ap not spared in cc)))
 
-  unread_same : filter_map (unread d at new) r.vehicles ≡ filter_map (unread d at r) r.vehicles
-  unread_same =
+  unacknowledged_same : filter_map (unacknowledged d at new) r.vehicles ≡ filter_map (unacknowledged d at r) r.vehicles
+  unacknowledged_same =
       ap (λ (f : Vehicle → Option QueueEntry). filter_map f r.vehicles)
       (λ j v.
-      cond (v.holder == d && is_mobilised v.status) (unread_turn at v (open_turn_same since b r w h d v.callsign j))
+      cond (v.holder == d && is_mobilised v.status)
+      (unacknowledged_turn at v (open_turn_same since b r w h d v.callsign j))
       None)
 
-  slow_turn_same : (v : Vehicle) (o : Option Turn)
+  late_turn_same : (v : Vehicle) (o : Option Turn)
       → ((t : Turn) → o ≡ Some t → b.incident d t.incident ≡ false)
-      → slow_turn d at new v o ≡ slow_turn d at r v o
-  slow_turn_same v None f = refl
-  slow_turn_same v (Some t) f = ap (slow_incident at v) (incident_same since b r w h d t.incident (f t refl))
+      → late_turn d at new v o ≡ late_turn d at r v o
+  late_turn_same v None f = refl
+  late_turn_same v (Some t) f = ap (late_incident at v) (incident_same since b r w h d t.incident (f t refl))
 
-  slow_by : (v : Vehicle) → slow d at new v ≡ slow d at r v
-  slow_by v =
-      ap (λ o. cond (v.holder == d && is_mobilised v.status) (slow_turn d at new v o) None)
+  late_by : (v : Vehicle) → late_for_scene d at new v ≡ late_for_scene d at r v
+  late_by v =
+      ap (λ o. cond (v.holder == d && is_mobilised v.status) (late_turn d at new v o) None)
       (open_turn_same since b r w h d v.callsign)
       ∙ ap (λ o. cond (v.holder == d && is_mobilised v.status) o None)
-      (slow_turn_same v (open_turn d v.callsign r) (found_stays since b r w h d v.callsign))
+      (late_turn_same v (open_turn d v.callsign r) (found_stays since b r w h d v.callsign))
 
   exception_same : filter_map (exception d) new.reports ≡ filter_map (exception d) r.reports
   exception_same =
@@ -101,7 +107,8 @@ module _ (since : ℕ) (b : Behind) (r : Room) (w : IsWellFormed r) (h : StaysBe
   unfolding entries
   entries_same i =
       unserved_same i
-      ++ (unread_same i ++ (filter_map_among (slow d at new) (slow d at r) r.vehicles (λ v m. slow_by v) i
+      ++ (unacknowledged_same i
+      ++ (filter_map_among (late_for_scene d at new) (late_for_scene d at r) r.vehicles (λ v m. late_by v) i
       ++ (exception_same i
       ++ (filter_map (overdue d at) r.loans
       ++ (filter_map (shift_over d at) r.vehicles

@@ -54,7 +54,7 @@ use Rattle.room_model.specs.Reports.{back_changes, drop_changes, ends_turn, is_d
 use Rattle.room_model.specs.Reports.{outcome_of, report_held, report_in, report_kept}
 use Rattle.room_model.specs.Reports.{report_somewhere, turn_after, turn_changes}
 use Rattle.room_model.specs.Room.{Room}
-use Rattle.room_model.specs.Step.{crew_asks, desk_asks, position_asks, who_asks}
+use Rattle.room_model.specs.Step.{desk_asks, position_asks, who_asks}
 use Rattle.room_model.specs.Vehicles.{duty, mobilise, mobilise_held, mobilised, off, off_duty}
 use Rattle.room_model.specs.Vehicles.{on_duty, stand_down, stand_down_held, standby, standby_at}
 use Rattle.room_model.specs.Vehicles.{stands_by, turn_stood_down}
@@ -402,7 +402,7 @@ module _ (since : ℕ) (b : Behind) (r : Room) (w : IsWellFormed r) (h : StaysBe
   kept_all c p at (Some k) e = refuse _ _ _ (λ f. tt)
   kept_all c p at None e = placed_all (vehicle_at c r) c p at e
 
-  crew_all : (c : Callsign) (a : Ask) (at : ℕ) → Holds (crew_asks c a at r)
+  crew_all : (c : Callsign) (a : Ask) (at : ℕ) → Holds (who_asks (Crew c) a at r)
   crew_all c (ask.Report p) at = kept_all c p at (kept_report c p.number r) refl
   crew_all c a at = quiet (Crew c) a at refl
 

@@ -8,13 +8,13 @@ use Rattle.room_types.specs.declared.answers.VehicleLine.{VehicleLine}
 use Rattle.room_types.specs.declared.answers.PointLine.{PointLine}
 use Rattle.room_types.specs.declared.tables.Offer.{Offer}
 use Rattle.room_types.specs.declared.tables.Loan.{Loan}
-use Rattle.dispatch_room_board.specs.Members.{HasMember, IsBool, IsByte, IsCallsign, IsClass}
-use Rattle.dispatch_room_board.specs.Members.{IsCounts, IsDivision, IsKind, IsMoment, IsNeed}
-use Rattle.dispatch_room_board.specs.Members.{IsNeeds, IsNumber, IsOrNull, IsPlace, IsPoint}
+use Rattle.dispatch_room_board.specs.Members.{HasMember, IsBool, IsCallsign, IsClass, IsCounts}
+use Rattle.dispatch_room_board.specs.Members.{IsDivision, IsKind, IsMoment, IsNeed, IsNeeds}
+use Rattle.dispatch_room_board.specs.Members.{IsNumber, IsOrNull, IsPlace, IsPoint, IsRank}
 use Rattle.dispatch_room_board.specs.Members.{IsStatus, IsVehicle, IsWhole, IsWord}
 
 pub record IsEntry (d : Data) (row : QueueEntry) : Type 0 where
-  pub rank : HasMember IsByte (codes "rank") d row.rank
+  pub rank : HasMember IsRank (codes "rank") d row.rank
   pub since : HasMember IsMoment (codes "since") d row.since
   pub number : HasMember IsWord (codes "number") d row.number
   pub callsign : HasMember IsVehicle (codes "vehicle") d row.callsign

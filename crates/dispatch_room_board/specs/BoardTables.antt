@@ -1,6 +1,6 @@
 -- The tables of a board, and what stands in their rows.
 use Rattle.std.specs.Prelude.{◌≡◌, ◌≤◌, ℕ, ◌+◌, ◌-◌, List, [], ◌∷◌, ◌++◌, length, codes, decimal}
-use Rattle.std.specs.Prelude.{nat_le, nat_lt, ◌==◌, if◌then◌else◌, Bool, true, false, Option, None}
+use Rattle.std.specs.Prelude.{nat_le, nat_lt, if◌then◌else◌, Bool, true, false, Option, None}
 use Rattle.std.specs.Prelude.{Some}
 use Rattle.room_types.specs.declared.answers.QueueEntry.{QueueEntry}
 use Rattle.room_types.specs.declared.answers.IncidentLine.{IncidentLine}
@@ -10,6 +10,11 @@ use Rattle.room_types.specs.declared.answers.VehicleLine.{VehicleLine}
 use Rattle.room_types.specs.declared.codes.Status.{Status}
 use Rattle.room_types.specs.declared.codes.Status.TheVariants.{OffDuty}
 use Rattle.room_types.specs.declared.needs.Counts.{Counts}
+use Rattle.room_types.specs.declared.ranks.Rank.{Rank}
+use Rattle.room_types.specs.declared.ranks.Rank.TheVariants as rank
+use Rattle.room_types.specs.declared.ranks.Subject.{Subject}
+use Rattle.room_types.specs.declared.ranks.Subject.TheVariants as subject
+use Rattle.room_types.specs.Ranks.{is_timed, subject_of}
 use Rattle.room_types.specs.declared.tables.Loan.{Loan}
 use Rattle.room_types.specs.declared.tables.Offer.{Offer}
 use Rattle.dispatch_room_board.specs.declared.cell_layout.Column.{Column}
@@ -79,33 +84,27 @@ table_lines table colour now rows =
     ++ row_lines table colour now rows
 
 -- what is the matter with an entry of a rank
-abbrev pub matter_of : ℕ → List ℕ
-matter_of rank =
-    if rank == 1 then codes "nobody sent"
-    else if rank == 2 then codes "order not acknowledged"
-    else if rank == 3 then codes "late for the scene"
-    else if rank == 4 then codes "report out of turn"
-    else if rank == 5 then codes "loan is over"
-    else if rank == 6 then codes "shift is over"
-    else if rank == 7 then codes "point short of cover"
-    else if rank == 8 then codes "offer not answered"
-    else codes "unknown"
+abbrev pub matter_of : Rank → List ℕ
+matter_of rank.Unserved = codes "nobody sent"
+matter_of rank.Unacknowledged = codes "order not acknowledged"
+matter_of rank.LateForScene = codes "late for the scene"
+matter_of rank.OutOfTurn = codes "report out of turn"
+matter_of rank.Overdue = codes "loan is over"
+matter_of rank.ShiftOver = codes "shift is over"
+matter_of rank.Uncovered = codes "point short of cover"
+matter_of rank.Unanswered = codes "offer not answered"
 
--- what its number is of: of nothing where a shift is over
-abbrev pub subject_of : ℕ → ℕ → List ℕ
-subject_of rank number =
-    if rank == 0 then named_text (codes "number") number
-    else if nat_le rank 3 then named_text (codes "incident") number
-    else if rank == 4 then named_text (codes "report") number
-    else if rank == 5 then named_text (codes "division") number
-    else if rank == 6 then []
-    else if rank == 7 then named_text (codes "point") number
-    else if rank == 8 then named_text (codes "division") number
-    else named_text (codes "number") number
+-- what its number is of
+abbrev pub subject_text : Subject → ℕ → List ℕ
+subject_text subject.Incident number = named_text (codes "incident") number
+subject_text subject.Report number = named_text (codes "report") number
+subject_text subject.Division number = named_text (codes "division") number
+subject_text subject.Nothing number = []
+subject_text subject.Point number = named_text (codes "point") number
 
--- how long it has waited: since when a point is short is not known
-abbrev pub waited_of : ℕ → ℕ → ℕ → List ℕ
-waited_of rank now moment = if rank == 7 then codes "-" else since_text now moment
+-- how long it has waited, where that is known
+abbrev pub waited_of : Rank → ℕ → ℕ → List ℕ
+waited_of rank now moment = if is_timed rank then since_text now moment else codes "-"
 
 -- a vehicle's callsign, where there is one
 abbrev pub callsign_of : Option (List ℕ) → List ℕ
@@ -118,7 +117,7 @@ entry_table = record {
   title = codes "Queue";
   titles = codes " what                     of                  vehicle      waited";
   columns = Left 24 ∷ Left 19 ∷ Left 8 ∷ Right 10 ∷ [];
-  texts = λ now e. matter_of e.rank ∷ subject_of e.rank e.number ∷ callsign_of e.callsign
+  texts = λ now e. matter_of e.rank ∷ subject_text (subject_of e.rank) e.number ∷ callsign_of e.callsign
       ∷ waited_of e.rank now e.since ∷ [];
   is_wrong = λ now e. false;
   note = λ row. [];

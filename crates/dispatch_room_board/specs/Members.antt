@@ -6,11 +6,13 @@ use Rattle.serde_json.specs.Find.{as_bool, as_null, as_number, as_str, as_u64, a
 use Rattle.room_place.specs.declared.places.Place.{Place}
 use Rattle.room_types.specs.Codes.{kind_number, status_number}
 use Rattle.room_types.specs.Needs.{is_some_need}
+use Rattle.room_types.specs.Ranks.{rank_number}
 use Rattle.room_types.specs.Texts.{is_callsign}
 use Rattle.room_types.specs.declared.codes.Kind.{Kind}
 use Rattle.room_types.specs.declared.codes.Status.{Status}
 use Rattle.room_types.specs.declared.answers.Served.{Served}
 use Rattle.room_types.specs.declared.needs.Counts.{Counts}
+use Rattle.room_types.specs.declared.ranks.Rank.{Rank}
 
 -- what is read: the one of which this holds, or none where it holds of none
 pub record IsRead {T : Type 0} (holds : T → Type 0) (read : Option T) : Type 0 where
@@ -85,6 +87,9 @@ IsKind d kind = IsWhole d (kind_number kind)
 
 abbrev pub IsStatus : Data → Status → Type 0
 IsStatus d status = IsWhole d (status_number status)
+
+abbrev pub IsRank : Data → Rank → Type 0
+IsRank d rank = IsWhole d (rank_number rank)
 
 -- its member of a name says it
 abbrev pub HasMember : {T : Type 0} → (Data → T → Type 0) → List ℕ → Data → T → Type 0

@@ -3,8 +3,8 @@ ghost use Rattle.serde_json.specs.Data.{Data};
 ghost use Rattle.serde_json.specs.View.{view};
 ghost use Rattle.dispatch_room_board.specs.Members.{HasItem, HasMember, IsBool, IsByte, IsCallsign};
 ghost use Rattle.dispatch_room_board.specs.Members.{IsCounts, IsFrom, IsKind, IsNeeds, IsNote};
-ghost use Rattle.dispatch_room_board.specs.Members.{IsOrNull, IsPlace, IsRead, IsServed, IsStatus};
-ghost use Rattle.dispatch_room_board.specs.Members.{IsWhole, IsWord};
+ghost use Rattle.dispatch_room_board.specs.Members.{IsOrNull, IsPlace, IsRank, IsRead, IsServed};
+ghost use Rattle.dispatch_room_board.specs.Members.{IsStatus, IsWhole, IsWord};
 
 use room_place::bounded_numbers::Bounded;
 use room_place::places::Place;
@@ -13,6 +13,7 @@ use room_types::callsign::Callsign;
 use room_types::codes::{Kind, Status};
 use room_types::needs::{Counts, Needs};
 use room_types::note::Note;
+use room_types::ranks::Rank;
 use serde_json::Value;
 
 /// What an answer can say.
@@ -148,6 +149,17 @@ impl FromJson for Status {
     fn from_json(value: &Value) -> Option<Status> {
         match u8::from_json(value) {
             Some(number) => Status::from_number(number),
+            None => None,
+        }
+    }
+}
+
+impl FromJson for Rank {
+    ghost says = { IsRank };
+
+    fn from_json(value: &Value) -> Option<Rank> {
+        match u8::from_json(value) {
+            Some(number) => Rank::from_number(number),
             None => None,
         }
     }

@@ -1,9 +1,10 @@
 //! The queue: its entries read and shown.
 ghost use Rattle.std.specs.Prelude.{◌≡◌};
+ghost use Rattle.room_types.specs.Ranks.{subject_of};
 ghost use Rattle.dispatch_room_board.specs.BoardCells.{text_of};
 ghost use Rattle.dispatch_room_board.specs.Members.{IsVehicle};
 ghost use Rattle.dispatch_room_board.specs.BoardRows.{IsEntry};
-ghost use Rattle.dispatch_room_board.specs.BoardTables.{entry_table, matter_of, subject_of};
+ghost use Rattle.dispatch_room_board.specs.BoardTables.{entry_table, matter_of, subject_text};
 ghost use Rattle.dispatch_room_board.specs.BoardTables.{waited_of};
 
 use crate::board_cells::{BoardCell, since};
@@ -15,6 +16,7 @@ use crate::table_layouts::{TableLayout, Tabled};
 use room_types::answers::QueueEntry;
 use room_types::callsign::Callsign;
 use room_types::numbers::Moment;
+use room_types::ranks::{Rank, Subject};
 use serde_json::Value;
 use std::alloc::{AllocError, Global};
 
@@ -92,43 +94,41 @@ impl Tabled for QueueEntry {
 }
 
 // What is the matter with an entry of a rank.
-fn matter(rank: u8) -> &'static str
+fn matter(rank: Rank) -> &'static str
     ensures { result.now ≡ matter_of rank }
 {
     match rank {
-        1 => "nobody sent",
-        2 => "order not acknowledged",
-        3 => "late for the scene",
-        4 => "report out of turn",
-        5 => "loan is over",
-        6 => "shift is over",
-        7 => "point short of cover",
-        8 => "offer not answered",
-        _ => "unknown",
+        Rank::Unserved => "nobody sent",
+        Rank::Unacknowledged => "order not acknowledged",
+        Rank::LateForScene => "late for the scene",
+        Rank::OutOfTurn => "report out of turn",
+        Rank::Overdue => "loan is over",
+        Rank::ShiftOver => "shift is over",
+        Rank::Uncovered => "point short of cover",
+        Rank::Unanswered => "offer not answered",
     }
 }
 
 // What the number of an entry of a rank is of.
-fn subject(rank: u8, number: u32) -> BoardCell<'static>
-    ensures { text_of result ≡ subject_of rank number }
+fn subject(rank: Rank, number: u32) -> BoardCell<'static>
+    ensures { text_of result ≡ subject_text (subject_of rank) number }
 {
-    match rank {
-        1..=3 => BoardCell::Named("incident", number),
-        4 => BoardCell::Named("report", number),
-        5 | 8 => BoardCell::Named("division", number),
-        6 => BoardCell::Text(""),
-        7 => BoardCell::Named("point", number),
-        _ => BoardCell::Named("number", number),
+    match rank.subject() {
+        Subject::Incident => BoardCell::Named("incident", number),
+        Subject::Report => BoardCell::Named("report", number),
+        Subject::Division => BoardCell::Named("division", number),
+        Subject::Nothing => BoardCell::Text(""),
+        Subject::Point => BoardCell::Named("point", number),
     }
 }
 
-// How long an entry has waited. Since when a point is short is not known.
-fn waited(rank: u8, moment: Moment, now: Moment) -> BoardCell<'static>
+// How long an entry has waited, where that is known.
+fn waited(rank: Rank, moment: Moment, now: Moment) -> BoardCell<'static>
     ensures { text_of result ≡ waited_of rank now moment }
 {
-    if rank == 7 {
-        BoardCell::Text("-")
-    } else {
+    if rank.is_timed() {
         since(moment, now)
+    } else {
+        BoardCell::Text("-")
     }
 }

@@ -9,7 +9,7 @@ use Rattle.room_types.specs.declared.fleet.Terminal.{Terminal}
 use Rattle.room_model.specs.Digests.{IsHeadOf}
 use Rattle.room_model.specs.Room.{Room}
 use Rattle.room_http_messages.specs.declared.sinks.WriteFailed.{WriteFailed}
-use Rattle.room_model.specs.declared.digests.Head.{Head}
+use Rattle.room_model.specs.declared.digests.StartDigest.{StartDigest}
 use Rattle.room_store.specs.StoredRoom.{IsKept, IsRoom}
 use Rattle.room_store.specs.declared.store.Store.{Store}
 use Rattle.dispatch_room_csv.specs.declared.fleet_file.FleetLine.{FleetLine}
@@ -86,7 +86,7 @@ ended (Err first) (Err fault) = Err first
 -- ---- what is kept, by what a file holds, and what of that lasts
 module _ {F : Type 0} (contents lasting : F → Option (List ℕ)) where
   -- a head was put behind it, and nothing else
-  abbrev pub PutsHead : ChangeList F → ChangeList F → Head → Type 0
+  abbrev pub PutsHead : ChangeList F → ChangeList F → StartDigest → Type 0
   PutsHead old new head = PutsKnown {E = WriteFailed} old.end new.end (contents old.out.file)
       (contents new.out.file) (room_text head) (Ok tt)
       × PutsEntry old.end new.end (contents old.out.file) (contents new.out.file) (room_text head)
@@ -96,7 +96,7 @@ module _ {F : Type 0} (contents lasting : F → Option (List ℕ)) where
   IsLasting list = lasting list.out.file ≡ contents list.out.file
 
   -- A head was put behind it, and then the lines of a text as rows, and all of it lasts.
-  pub record KeepsLines (old new : ChangeList F) (head : Head) (text : List ℕ) : Type 0 where
+  pub record KeepsLines (old new : ChangeList F) (head : StartDigest) (text : List ℕ) : Type 0 where
     pub headed : ChangeList F
     pub begins : PutsHead old headed head
     pub lines : List (List ℕ)
@@ -105,7 +105,7 @@ module _ {F : Type 0} (contents lasting : F → Option (List ℕ)) where
     pub lasts : IsLasting new
 
   -- a head was put behind it, and lasts
-  pub record KeepsHead (old new : ChangeList F) (head : Head) : Type 0 where
+  pub record KeepsHead (old new : ChangeList F) (head : StartDigest) : Type 0 where
     pub begins : PutsHead old new head
     pub lasts : IsLasting new
 
@@ -117,7 +117,7 @@ BeginsMarked {F} contents marks list =
 
 module _ {S : Type 0} (g : Ghosts S) where
   -- The head is that of the room, which stays as it is and is kept as it was.
-  pub record ShowsHead (old new : Store S) (head : Head) : Type 0 where
+  pub record ShowsHead (old new : Store S) (head : StartDigest) : Type 0 where
     pub stays : Stays g old new
     pub kept : IsClean g new.conn → IsKept g old → IsKept g new
     pub is : IsClean g new.conn → (terminals : List Terminal) (room : Room)
@@ -146,7 +146,7 @@ module _ {S : Type 0} (g : Ghosts S) where
     abbrev pub PlacesRoom : Store S → Store S → ChangeList F → ChangeList F
         → Result (Unit {0}) Failure → Type 0
     PlacesRoom old new from to kept = MatchResult kept
-        (λ _. (head : Head) × ShowsHead old new head × KeepsHead contents lasting from to head)
+        (λ _. (head : StartDigest) × ShowsHead old new head × KeepsHead contents lasting from to head)
         (IsUnplaced from to)
 
     -- The room's digest is kept after a change that ended so, whether it was made or not.
@@ -161,7 +161,7 @@ module _ {S : Type 0} (g : Ghosts S) where
     pub record KeepsAndEnrols (old new : Store S) (from to : ChangeList F) (lines : List FleetLine)
         (text : List ℕ) (before after : Option (List ℕ)) (done : Result Done Failure) : Type 0 where
       pub begun : Store S
-      pub head : Head
+      pub head : StartDigest
       pub shows : ShowsHead old begun head
       pub kept : ChangeList F
       pub keeps : KeepsLines contents lasting from kept head text

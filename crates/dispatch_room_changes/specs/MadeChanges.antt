@@ -3,7 +3,7 @@
 use Rattle.std.specs.Prelude.{Err, List, Option, Result, ℕ, ◌≡◌, ◌⊎◌}
 use Rattle.sqlite.specs.Held.{Held}
 use Rattle.sqlite_trees.specs.declared.store.Store.{Ghosts}
-use Rattle.room_model.specs.declared.digests.Head.{Head}
+use Rattle.room_model.specs.declared.digests.StartDigest.{StartDigest}
 use Rattle.room_store.specs.declared.store.Store.{Store}
 use Rattle.dispatch_room_exit.specs.declared.exit_status.Failure.{Failure}
 use Rattle.dispatch_room_tasks.specs.OpenedRoom.{IsUnopened, OpensRoom}
@@ -26,7 +26,7 @@ module _ {S : Type 0} (g : Ghosts S) where
   module _ {F : Type 0} (contents lasting : F → Option (List ℕ)) where
     -- The room's digest was kept, and then this text.
     pub record KeepsText (old new : Store S) (from to : ChangeList F) (text : List ℕ) : Type 0 where
-      pub head : Head
+      pub head : StartDigest
       pub shows : ShowsHead g old new head
       pub keeps : KeepsLines contents lasting from to head text
 

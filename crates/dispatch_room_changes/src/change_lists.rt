@@ -13,7 +13,7 @@ use dispatch_room_journal::list_ends::{ListEnd, put_entry, put_row};
 use dispatch_room_journal::row_runs::ROW_ROOM;
 use dispatch_room_serving::journal_files::{Lasting, WrittenFile};
 use room_http::observers::JournalFailed;
-use room_model::digests::Head;
+use room_model::digests::StartDigest;
 
 /// The list of a room, to which the text of a change is appended.
 #[derive(Drop)]
@@ -39,7 +39,7 @@ impl<F> ChangeList<F> {
 /// `ROW_ROOM` bytes, or if the list can't be marked or written.
 pub fn keep_lines<F: Lasting>(
     list: &mut ChangeList<F>,
-    head: &Head,
+    head: &StartDigest,
     text: &[u8],
 ) -> Result<(), JournalFailed>
     requires sound { list.old.out.failed ≡ false }
@@ -57,7 +57,10 @@ pub fn keep_lines<F: Lasting>(
 }
 
 /// Keeps the digest of a room, and makes it last. Until it does, a mark says where it begins.
-pub fn keep_place<F: Lasting>(list: &mut ChangeList<F>, head: &Head) -> Result<(), JournalFailed>
+pub fn keep_place<F: Lasting>(
+    list: &mut ChangeList<F>,
+    head: &StartDigest,
+) -> Result<(), JournalFailed>
     requires sound { list.old.out.failed ≡ false }
     requires digest { IsDigest head.now.digits }
     ensures kept { OnOk result (KeepsHead F.contents F.lasting list.old list.new head.now) }
@@ -85,7 +88,7 @@ fn make_last<F: Lasting>(list: &mut ChangeList<F>) -> Result<(), JournalFailed>
 }
 
 // Marks beside a list where it ends, and keeps the digest of a room there.
-fn keep_head<F: Lasting>(list: &mut ChangeList<F>, head: &Head) -> Result<(), JournalFailed>
+fn keep_head<F: Lasting>(list: &mut ChangeList<F>, head: &StartDigest) -> Result<(), JournalFailed>
     requires sound { list.old.out.failed ≡ false }
     requires digest { IsDigest head.now.digits }
     ensures failed { list.new.out.failed ≡ is_err result }

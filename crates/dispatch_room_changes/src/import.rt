@@ -30,11 +30,11 @@ pub fn import<M: Machine, O: Write>(
 {
     let text = machine.read_text(fleet)?;
     let sheet = Sheet::new(machine.alloc(), explainer, fleet, text.as_slice());
-    import_by(machine, file, sheet, out)
+    import_rows(machine, file, sheet, out)
 }
 
 // Enrols the good rows of the fleet that a text gives.
-fn import_by<M: Machine, O: Write>(
+fn import_rows<M: Machine, O: Write>(
     machine: &mut M,
     file: &str,
     sheet: Sheet<'_>,

@@ -20,7 +20,7 @@ use dispatch_room_serving::journal_files::Lasting;
 use dispatch_room_tasks::enrolment::enrol;
 use dispatch_room_tasks::opened_room::{TaskResult, open_room};
 use dispatch_room_tasks::row_outcomes::good_rows;
-use room_model::digests::{Head, Version};
+use room_model::digests::{StartDigest, Version};
 use room_store::store::Store;
 use room_store::store_digest::digest_of_room;
 use room_types::fleet::FleetRow;
@@ -135,7 +135,7 @@ fn keep_end<S: Alter, F: Lasting>(
 }
 
 /// The version and the digest of a room, as a list has them. The room stays as it is.
-pub fn head_of<S: Alter>(room: &mut Store<S>) -> Result<Head, Failure>
+pub fn head_of<S: Alter>(room: &mut Store<S>) -> Result<StartDigest, Failure>
     requires ready { IsReady S.Store room.old }
     ensures ready { IsReady S.Store room.new }
     ensures stays { Stays S.Store room.old room.new }
@@ -144,7 +144,7 @@ pub fn head_of<S: Alter>(room: &mut Store<S>) -> Result<Head, Failure>
     ensures fault { IfErr result (λ fault. (fault ≡ Memory) ⊎ (fault ≡ Storage)) }
 {
     match digest_of_room(room, Version::Second) {
-        Ok(digest) => Ok(Head {
+        Ok(digest) => Ok(StartDigest {
             version: Version::Second,
             digits: digest_of(&digest),
         }),

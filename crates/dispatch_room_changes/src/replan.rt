@@ -30,11 +30,11 @@ pub fn replan<M: Machine, O: Write>(
 {
     let text = machine.read_text(plan)?;
     let sheet = Sheet::new(machine.alloc(), explainer, plan, text.as_slice());
-    replan_as(explainer, machine, place, sheet, out)
+    replan_text(explainer, machine, place, sheet, out)
 }
 
 // Gives a room the plan of a file's text.
-fn replan_as<M: Machine, O: Write>(
+fn replan_text<M: Machine, O: Write>(
     explainer: Explainer<'_>,
     machine: &mut M,
     place: ChangedFile<'_>,

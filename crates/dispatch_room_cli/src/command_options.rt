@@ -200,7 +200,8 @@ const SERVE: CommandForm = CommandForm {
             name: "history",
             kind: WordKind::Flag,
             help: "Serve also GET /incidents/N, what came of an incident, GET /vehicles/C/reports, \
-                 what became of a vehicle's reports, and GET /last, the last numbers of a terminal",
+                 what became of a vehicle's reports, GET /job, what a crew is told of its incident, \
+                 and GET /last, the last numbers of a terminal",
         },
         Word {
             name: "log",

@@ -10,7 +10,7 @@ use Rattle.dispatch_room_tasks.specs.OpenedRoom.{IsUnopened}
 use Rattle.dispatch_room_cli.specs.declared.tasks.Replay.{Replay as How}
 use Rattle.dispatch_room_journal.specs.Chains.{sha256_digits}
 use Rattle.dispatch_room_journal.specs.RecordFronts.{list_says}
-use Rattle.dispatch_room_journal.specs.declared.read_progress.Reach.TheVariants.{Leg}
+use Rattle.dispatch_room_journal.specs.declared.read_progress.Reach.TheVariants.{Segment}
 use Rattle.dispatch_room_lists.specs.ReplayedLists.{HasReplayed, LosesReplayed}
 use Rattle.dispatch_room_lists.specs.RoomDigests.{HasDigest}
 use Rattle.dispatch_room_archive.specs.Examination as checked
@@ -85,12 +85,12 @@ ReportsBoth newer = λ S g old before after worked. MatchResult worked
     (JoinsNone g old)
     × (after ≡ before)
 
--- what a list says leg by leg, by what is known of its bytes
+-- what a list says segment by segment, by what is known of its bytes
 abbrev pub said_by_legs : Option (List ℕ) → Option (List ℕ)
-said_by_legs bytes = option_map (list_says sha256_digits Leg) bytes
+said_by_legs bytes = option_map (list_says sha256_digits Segment) bytes
 
 -- The list of an input, of whose bytes this is known, is replayed to the room, or its messages are
--- answered; or no room is opened, and nothing is printed; or, behind a leg of a list, none is opened
+-- answered; or no room is opened, and nothing is printed; or, behind a segment of a list, none is opened
 -- again.
 abbrev pub Replays : Option (List ℕ) → How → Doing Done
 Replays bytes how = λ S g old before after worked. MatchResult worked

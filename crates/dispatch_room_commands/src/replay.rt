@@ -7,8 +7,8 @@ use dispatch_room_cli::tasks::Replay;
 use dispatch_room_disk::room_files::RoomFile;
 use dispatch_room_exit::exit_status::{Done, Failure};
 use dispatch_room_exit::failure_causes::Explainer;
-use dispatch_room_lists::replayed_legs::Course;
 use dispatch_room_lists::replayed_lists::replay_from;
+use dispatch_room_lists::replayed_segments::ReplayCourse;
 use dispatch_room_tcp::hosts::Machine;
 use std::io::Write;
 
@@ -28,7 +28,7 @@ pub fn replay<M: Machine, O: Write, E: Write>(
 {
     let input = machine.input();
     let conn = machine.open(RoomFile::Kept(file))?;
-    let course = Course {
+    let course = ReplayCourse {
         alloc: machine.alloc(),
         explainer: explainer,
         replay,

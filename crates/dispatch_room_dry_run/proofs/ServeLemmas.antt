@@ -15,7 +15,7 @@ use Rattle.room_http.specs.Arrivals.{Arrival, is_head_only}
 use Rattle.room_http.specs.Session.{Sides, Finish, Answered, HasActed, Unserved, Unwritten, Broken}
 use Rattle.room_http.specs.Session.{Untimed, ServeIs}
 use Rattle.dispatch_room_dry_run.specs.Example.{unstated}
-use Rattle.room_http.specs.Course.{Course}
+use Rattle.room_http.specs.ServedTrace.{ServedTrace}
 use Rattle.room_http.specs.Dialogues.{Timed, IsCaused, IsFront, BreaksOff, WritesDialogue}
 
 module _ (step : Step) (setting : HttpSettings) (old : Sides) (new : Finish) (trusted : Type 0)
@@ -103,7 +103,7 @@ module _ (step : Step) (setting : HttpSettings) (old : Sides) (new : Finish) (tr
   }
 
   -- however it ended
-  pub serves : (course : Course) (budget : ℕ) (end : ServeEnd)
+  pub serves : (course : ServedTrace) (budget : ℕ) (end : ServeEnd)
       → ServeIs step setting old new trusted stood stands unserved failed course budget end
       → ServeIs step setting old new ⊤ asked unstated (λ x. unstated) ⊤ course budget end
   serves course budget Closed (inl ended) =

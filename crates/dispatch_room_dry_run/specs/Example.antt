@@ -12,7 +12,7 @@ use Rattle.room_http.specs.declared.settings.HttpSettings.{HttpSettings}
 use Rattle.room_model.specs.Rooms.{machine}
 use Rattle.room_store_writes.specs.NewRoom.{in_order, new_room}
 use Rattle.room_store.specs.FleetEnrolment.{room_after_rows, terminals_after_rows}
-use Rattle.room_http.specs.Course.{Course}
+use Rattle.room_http.specs.ServedTrace.{ServedTrace}
 use Rattle.room_http.specs.Session.{Finish, ServeIs, Sides}
 use Rattle.room_http.specs.declared.session.ServeEnd.{ServeEnd}
 use Rattle.dispatch_room_dry_run.specs.DryRun.{most_reads}
@@ -124,7 +124,7 @@ unstated terminals room = ⊤
 -- reads at most
 abbrev pub IsExampleDialogue : Sides → Finish → ℕ → ServeEnd → Type 0
 IsExampleDialogue old new budget end = (setting : HttpSettings) × IsExampleSetting setting
-    × ((course : Course)
+    × ((course : ServedTrace)
     × ServeIs machine setting old new ⊤ IsExample unstated (λ x. unstated) ⊤ course budget end)
 
 -- the example room was served so, in as many reads as the dry run makes at most; how its clock was

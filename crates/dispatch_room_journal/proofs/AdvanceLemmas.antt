@@ -12,7 +12,7 @@ use Rattle.dispatch_room_journal.specs.declared.record_inbox.TheConstants.{RECOR
 use Rattle.dispatch_room_journal.specs.declared.read_progress.Mode.{Mode}
 use Rattle.dispatch_room_journal.specs.declared.read_progress.Mode.TheVariants.{Fresh, Plain, Chain}
 use Rattle.dispatch_room_journal.specs.declared.read_progress.Mode.TheVariants.{Done}
-use Rattle.dispatch_room_journal.specs.declared.read_progress.Reach.TheVariants.{Full, Leg}
+use Rattle.dispatch_room_journal.specs.declared.read_progress.Reach.TheVariants.{Full, Segment}
 use Rattle.dispatch_room_journal.specs.declared.read_progress.Step.{Step}
 use Rattle.dispatch_room_journal.specs.declared.read_progress.Step.TheVariants.{Ended, More, Moved}
 use Rattle.dispatch_room_journal.specs.declared.read_progress.Step.TheVariants.{Passed, Wrong}
@@ -161,17 +161,17 @@ smaller mode kept new_mode new_vouched new_len passed new_passed (inl near) coun
 smaller mode kept new_mode new_vouched new_len passed new_passed (inr row) counts fits =
     omega (arith, weight_fits new_mode new_vouched new_len, counts, row, fits)
 
--- by legs no row is passed over
-pub no_rows : (mode : Mode) (kept : List ℕ) → reach_of mode ≡ Leg → rows_next mode kept ≡ 0
-no_rows (Fresh reach) kept legs = refl
-no_rows (Plain reach) kept legs = refl
-no_rows (Chain Full link) kept legs = cc
-no_rows (Chain Leg link) kept legs = refl
-no_rows (Done reach) kept legs = refl
+-- by segments no row is passed over
+pub no_rows : (mode : Mode) (kept : List ℕ) → reach_of mode ≡ Segment → rows_next mode kept ≡ 0
+no_rows (Fresh reach) kept segments = refl
+no_rows (Plain reach) kept segments = refl
+no_rows (Chain Full link) kept segments = cc
+no_rows (Chain Segment link) kept segments = refl
+no_rows (Done reach) kept segments = refl
 
 -- so none is counted
-pub legs_row : (mode : Mode) (kept : List ℕ) → 1 ≡ rows_next mode kept → reach_of mode ≢ Leg
-legs_row mode kept row legs = absurd (omega (arith, row, no_rows mode kept legs))
+pub legs_row : (mode : Mode) (kept : List ℕ) → 1 ≡ rows_next mode kept → reach_of mode ≢ Segment
+legs_row mode kept row segments = absurd (omega (arith, row, no_rows mode kept segments))
 
 module _ (mode : Mode) (kept : List ℕ) (new_mode : Mode) (new_vouched : ℕ) (new_kept : List ℕ) where
   -- a step without a read

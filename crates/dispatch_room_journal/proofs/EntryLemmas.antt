@@ -6,7 +6,7 @@ use Rattle.std.proofs.Common.{append-nil, append_assoc, length-append}
 use Rattle.std.proofs.Math.Seq.{get_or-append_seam}
 use Rattle.std.proofs.lemmas.List.{length-replicate, drop_at, get_or_append_left}
 use Rattle.std.proofs.lemmas.List.Elements.{All-head, All-tail}
-use Rattle.room_model.specs.declared.digests.Head.{Head}
+use Rattle.room_model.specs.declared.digests.StartDigest.{StartDigest}
 use Rattle.room_model.specs.declared.digests.Version.TheVariants.{First}
 use Rattle.dispatch_room_journal.specs.declared.entry_lines.EntryLine.{EntryLine}
 use Rattle.dispatch_room_journal.specs.declared.entry_lines.EntryLine.TheVariants.{Room, Message}
@@ -37,7 +37,7 @@ size_of (Message at size) = size
 size_of (Room digest) = 0
 size_of (Answer status) = 0
 
-abbrev head_of : EntryLine → Head
+abbrev head_of : EntryLine → StartDigest
 head_of (Room h) = h
 head_of (Message at size) = record { version = First; digits = [] }
 head_of (Answer status) = record { version = First; digits = [] }

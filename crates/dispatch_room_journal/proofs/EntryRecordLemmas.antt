@@ -3,7 +3,7 @@ use Rattle.std.proofs.Common.{◌≡◌, ◌∙◌, refl, sym, ap, arith, ℕ, L
 use Rattle.std.proofs.Common.{length-append, drop, append-nil, true, false, inl, inr, ◌↔◌, IsTrue}
 use Rattle.std.proofs.lemmas.Bool.{false≢true}
 use Rattle.dispatch_room_journal.specs.declared.entry_prefixes.EntryLayout.{EntryLayout}
-use Rattle.room_model.specs.declared.digests.Head.{Head}
+use Rattle.room_model.specs.declared.digests.StartDigest.{StartDigest}
 use Rattle.dispatch_room_journal.specs.declared.entry_lines.EntryLine.TheVariants.{Room}
 use Rattle.dispatch_room_journal.specs.declared.row_runs.Behind.TheVariants.{Other}
 use Rattle.dispatch_room_journal.specs.Entries.{Begins, Entry, IsEntry, IsForeign, IsPart, line_of}
@@ -63,7 +63,7 @@ foreign_head body foreign = λ head is all.
     (no_end_law body (room head) [] (begins_all body (room head) is all)).2 foreign
 
 module _ (body : List ℕ) (layout : EntryLayout) (e : Entry) (is : IsLayout body layout e) where
-  same_entry : (head : Head) → IsEntry (room head) → body ≡ text_of (room head) → e ≡ room head
+  same_entry : (head : StartDigest) → IsEntry (room head) → body ≡ text_of (room head) → e ≡ room head
   same_entry head is_head all =
       (one_entry_law body e (room head) (drop layout.end body) [] is.begins (begins_all body (room head) is_head all)).0
 
@@ -73,10 +73,10 @@ module _ (body : List ℕ) (layout : EntryLayout) (e : Entry) (is : IsLayout bod
       more (is.end ∙ ap (λ x. length (text_of x)) (same_entry head is_head all) ∙ sym (ap length all))
 
   -- nor one whose line is another
-  pub other_head : ((head : Head) → (layout.line ≡ Room head) → ⊥) → HeadIs body Other
+  pub other_head : ((head : StartDigest) → (layout.line ≡ Room head) → ⊥) → HeadIs body Other
   other_head other = λ head is_head all. other head (is.line ∙ ap line_of (same_entry head is_head all))
 
-  pub is_head : (head : Head) → layout.line ≡ Room head → layout.end ≡ length body
+  pub is_head : (head : StartDigest) → layout.line ≡ Room head → layout.end ≡ length body
       → IsEntry (room head) × (body ≡ text_of (room head))
   is_head head line all =
       let found = layout_of_room body layout e head is line in

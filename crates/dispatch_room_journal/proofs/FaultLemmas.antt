@@ -15,9 +15,9 @@ use Rattle.room_http_messages.specs.Messages.{IsRefused, IsPart as IsPartOfMessa
 use Rattle.room_http_messages.proofs.LawLemmas.{one_message_law, no_end_law}
 use Rattle.room_http.specs.Dialogues.{IsCaused}
 use Rattle.room_model.specs.Rooms.{IsUnavailable}
-use Rattle.room_model.specs.declared.digests.Miss.{Miss}
-use Rattle.room_model.specs.declared.digests.Miss.TheVariants as miss
-use Rattle.room_model.specs.declared.digests.Head.{Head}
+use Rattle.room_model.specs.declared.digests.DigestMismatch.{DigestMismatch}
+use Rattle.room_model.specs.declared.digests.DigestMismatch.TheVariants as miss
+use Rattle.room_model.specs.declared.digests.StartDigest.{StartDigest}
 use Rattle.dispatch_room_journal.specs.declared.entry_reader.EntryFault.{EntryFault}
 use Rattle.dispatch_room_journal.specs.declared.entry_reader.EntryFault.TheVariants.{Cut, Foreign}
 use Rattle.dispatch_room_journal.specs.declared.entry_reader.EntryFault.TheVariants.{Read}
@@ -83,16 +83,16 @@ pub begins_one : (e : Entry) (text rest : List ℕ) → IsEntry e → text ≡ t
 begins_one e text rest x is = (x, is ∙ ap (λ t. t ++ rest) (append-nil (text_of e)))
 
 -- what a message is played for
-played_more : (E F : Option Open → Head → Type 0) (rest : List ℕ)
-    → ((open_ : Option Open) (head : Head) → E open_ head → F open_ head)
+played_more : (E F : Option Open → StartDigest → Type 0) (rest : List ℕ)
+    → ((open_ : Option Open) (head : StartDigest) → E open_ head → F open_ head)
     → IsPlayedFor E rest → IsPlayedFor F rest
 played_more E F rest e (inl status) = inl status
 played_more E F rest e (inr head) = inr (head.0, head.1, head.2, e None head.0 head.3)
 
 -- what explains a fault, explains it where more is known
-bad_more : (waits : Bool) (none full other whole : Type 0) (E F : Option Open → Head → Type 0)
+bad_more : (waits : Bool) (none full other whole : Type 0) (E F : Option Open → StartDigest → Type 0)
     (last : List Turn) (rest : List ℕ) → (none → other) → (full → whole)
-    → ((open_ : Option Open) (head : Head) → E open_ head → F open_ head)
+    → ((open_ : Option Open) (head : StartDigest) → E open_ head → F open_ head)
     → IsBad waits none full E last rest → IsBad waits other whole F last rest
 bad_more waits none full other whole E F last rest n f e (broken few x) = broken few x
 bad_more waits none full other whole E F last rest n f e (unasked status more few x) = unasked status more few x
@@ -104,9 +104,9 @@ bad_more waits none full other whole E F last rest n f e (broken_after at sent m
     broken_after at sent more wait few x y
 bad_more waits none full other whole E F last rest n f e (too_many x) = too_many (f x)
 
-explains_more : (waits : Bool) (none full other whole : Type 0) (E F : Option Open → Head → Type 0)
+explains_more : (waits : Bool) (none full other whole : Type 0) (E F : Option Open → StartDigest → Type 0)
     (last : List Turn) (fault : ReplayFault) (rest : List ℕ) → (none → other) → (full → whole)
-    → ((open_ : Option Open) (head : Head) → E open_ head → F open_ head) → Explains waits none full E last fault rest
+    → ((open_ : Option Open) (head : StartDigest) → E open_ head → F open_ head) → Explains waits none full E last fault rest
     → Explains waits other whole F last fault rest
 explains_more waits none full other whole E F last Bad rest n f e x =
     bad_more waits none full other whole E F last rest n f e x
@@ -117,16 +117,16 @@ explains_more waits none full other whole E F last WriteFailed rest n f e x = tt
 explains_more waits none full other whole E F last (Unavailable r) rest n f e x = tt
 
 pub begins_explain : (left : Option (List ℕ)) (entries : List Entry) (waits : Bool)
-    (none full other whole : Type 0) (E F : Option Open → Head → Type 0) (last : List Turn)
+    (none full other whole : Type 0) (E F : Option Open → StartDigest → Type 0) (last : List Turn)
     (fault : ReplayFault)
-    → (none → other) → (full → whole) → ((open_ : Option Open) (head : Head) → E open_ head → F open_ head)
+    → (none → other) → (full → whole) → ((open_ : Option Open) (head : StartDigest) → E open_ head → F open_ head)
     → BeginsWith left entries (Explains waits none full E last fault)
     → BeginsWith left entries (Explains waits other whole F last fault)
 begins_explain left entries waits none full other whole E F last fault n f e begins text is =
     let x = begins text is in (x.0, x.1, explains_more waits none full other whole E F last fault x.0 n f e x.2)
 
 -- the fault of a read
-pub read_explains : (waits : Bool) (none full : Type 0) (E : Option Open → Head → Type 0) (last : List Turn)
+pub read_explains : (waits : Bool) (none full : Type 0) (E : Option Open → StartDigest → Type 0) (last : List Turn)
     (fault : EntryFault) (text rest : List ℕ) → FirstIs rest (Err fault)
     → (IsBroken rest → IsBad waits none full E last text)
     → Explains waits none full E last (read_fault fault) text
@@ -141,7 +141,7 @@ read_due kept failed ended left Foreign x = (x.1, refl)
 read_due kept failed ended left Read x = (x, refl)
 
 -- memory or storage is unavailable
-pub unavailable_explains : (waits : Bool) (none full : Type 0) (E : Option Open → Head → Type 0) (last : List Turn)
+pub unavailable_explains : (waits : Bool) (none full : Type 0) (E : Option Open → StartDigest → Type 0) (last : List Turn)
     (fault : ReplayFault) (rest : List ℕ) → IsUnavailableFault fault
     → Explains waits none full E last fault rest
 unavailable_explains waits none full E last fault rest x =
@@ -153,7 +153,7 @@ unavailable_due read_failed write_failed fault read write x =
     subst (λ (f : ReplayFault). IsDueTo read_failed write_failed f) (sym x.1) (read, write, x.2)
 
 -- a message that was not played
-pub refuses_explains : (waits : Bool) (none full : Type 0) (E : Option Open → Head → Type 0) (at : ℕ)
+pub refuses_explains : (waits : Bool) (none full : Type 0) (E : Option Open → StartDigest → Type 0) (at : ℕ)
     (sent : List ℕ) (fault : ReplayFault) (text rest : List ℕ) → Begins text (message at sent) rest
     → Refuses sent fault → (waits ≡ true → fault ≡ Bad → IsPlayedFor E rest)
     → Explains waits none full E [] fault text
@@ -201,7 +201,7 @@ pub stopped_kept : (s : Stopped) (fault : ReplayFault) (number : ℕ) (P : Type 
 stopped_kept s fault number P is x = subst (λ (t : Stopped). Unless t.fault P) (sym is) x
 
 -- what holds where the room would have come to another digest
-pub unless_missed : (m : Miss) (fault : ReplayFault) (P : Type 0) → fault ≡ miss_fault m
+pub unless_missed : (m : DigestMismatch) (fault : ReplayFault) (P : Type 0) → fault ≡ miss_fault m
     → (m ≡ miss.OtherDigest → P) → Unless fault P
 unless_missed miss.OtherDigest fault P is x = subst (λ (f : ReplayFault). Unless f P) (sym is) (x refl)
 unless_missed (miss.Unavailable r) fault P is x = subst (λ (f : ReplayFault). Unless f P) (sym is) tt

@@ -16,7 +16,7 @@ use Rattle.room_model.specs.Room.{Room}
 use Rattle.room_http.specs.ReplyMessages.{line, reply_bytes, status_of}
 use Rattle.room_http.specs.declared.settings.HttpSettings.{HttpSettings}
 use Rattle.room_model.specs.Rooms.{Step}
-use Rattle.room_model.specs.declared.digests.Head.{Head}
+use Rattle.room_model.specs.declared.digests.StartDigest.{StartDigest}
 use Rattle.room_http.specs.Arrivals.{message as arrived, refused, is_closing, is_head_only}
 use Rattle.room_http.specs.KeptMessages.{AreKept, AreReplies, IsCutShort, IsRecord, IsUnwritten}
 use Rattle.room_http.specs.KeptMessages.{KeepsUnserved}
@@ -408,7 +408,7 @@ module _ (step : Step) (setting : HttpSettings) (digits : DigitsOf) (terminals :
       come
 
   -- ---- a head
-  module _ (h : Head) (entry : IsEntry (head_entry h)) where
+  module _ (h : StartDigest) (entry : IsEntry (head_entry h)) where
     head_next : (list : List ℕ) (turns : List Turn) (now : Room) → IsRecorded list turns now
         → IsHeadOf digits h terminals now
         → IsRecorded (list ++ room_text h) (turns ++ compared h ∷ []) now

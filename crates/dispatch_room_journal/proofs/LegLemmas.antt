@@ -1,10 +1,10 @@
--- Lemmas on the legs of a list.
+-- Lemmas on the segments of a list.
 use Rattle.std.proofs.Common.{◌≡◌, ◌∙◌, refl, sym, ap, ℕ, List, [], ◌∷◌, ◌++◌, length, append_assoc}
 use Rattle.std.proofs.Common.{All, Bool, true, false, ◌||◌}
 use Rattle.std.proofs.lemmas.List.Elements.{All-head, All-tail}
 use Rattle.std.specs.List.{flat_map}
 use Rattle.dispatch_room_journal.specs.declared.read_progress.Reach.{Reach}
-use Rattle.dispatch_room_journal.specs.declared.read_progress.Reach.TheVariants.{Full, Leg}
+use Rattle.dispatch_room_journal.specs.declared.read_progress.Reach.TheVariants.{Full, Segment}
 use Rattle.dispatch_room_journal.specs.Chains.{IsBody, chain_text, is_end, is_no_entry, is_row}
 use Rattle.dispatch_room_journal.specs.Chains.{last_check, next_check, record_text, said_by}
 use Rattle.dispatch_room_journal.specs.RecordFronts.{comes_next, says, stops_at}
@@ -62,18 +62,18 @@ module _ (hash : List ℕ → List ℕ) (long : (text : List ℕ) → length (ha
       → AreBodies has_ended (front ++ row ∷ rows) → All IsNoRow front → All IsRow (row ∷ rows)
       → let bodies = front ++ row ∷ rows in
       let text = chain_text hash check bodies ++ rest in
-      (says hash Leg check has_ended text ≡ flat_map said_by front)
-      × (says hash Full check has_ended text ≡ says hash Leg check has_ended text
+      (says hash Segment check has_ended text ≡ flat_map said_by front)
+      × (says hash Full check has_ended text ≡ says hash Segment check has_ended text
       ++ says hash Full (last_check hash check bodies) (last_ended has_ended bodies) rest)
   leg_by_leg [] rows row rest check has_ended are none rows_are =
       let next = next_check hash check row in
       let back = chain_text hash next rows ++ rest in
-      let leg = ap (says hash Leg check has_ended)
+      let segment = ap (says hash Segment check has_ended)
       (append_assoc (record_text hash check row) (chain_text hash next rows) rest)
-      ∙ record_stops Leg check has_ended row back are.0 are.1 (All-head IsRow row rows rows_are) in (
-        leg,
+      ∙ record_stops Segment check has_ended row back are.0 are.1 (All-head IsRow row rows rows_are) in (
+        segment,
         rows_pass (row ∷ rows) check has_ended rest are rows_are
-            ∙ ap (λ t. t ++ says hash Full (last_check hash next rows) (last_ended (is_end row) rows) rest) (sym leg),
+            ∙ ap (λ t. t ++ says hash Full (last_check hash next rows) (last_ended (is_end row) rows) rest) (sym segment),
       )
   leg_by_leg (body ∷ front) rows row rest check has_ended are none rows_are =
       let next = next_check hash check body in
@@ -82,15 +82,15 @@ module _ (hash : List ℕ → List ℕ) (long : (text : List ℕ) → length (ha
       let split = append_assoc (record_text hash check body) (chain_text hash next bodies) rest in
       let goes = All-head IsNoRow body front none in
       let more = leg_by_leg front rows row rest next (is_end body) are.2 (All-tail IsNoRow body front none) rows_are in
-      let leg = ap (says hash Leg check has_ended) split
-      ∙ record_says Leg check has_ended body back are.0 are.1 goes in
+      let segment = ap (says hash Segment check has_ended) split
+      ∙ record_says Segment check has_ended body back are.0 are.1 goes in
       let behind = says hash Full (last_check hash next bodies) (last_ended (is_end body) bodies) rest in (
-        leg ∙ ap (λ t. said_by body ++ t) more.0,
+        segment ∙ ap (λ t. said_by body ++ t) more.0,
         ap (says hash Full check has_ended) split
             ∙ record_says Full check has_ended body back are.0 are.1 refl
             ∙ ap (λ t. said_by body ++ t) more.1
-            ∙ sym (append_assoc (said_by body) (says hash Leg next (is_end body) back) behind)
-            ∙ ap (λ t. t ++ behind) (sym leg),
+            ∙ sym (append_assoc (said_by body) (says hash Segment next (is_end body) back) behind)
+            ∙ ap (λ t. t ++ behind) (sym segment),
       )
 
 pub leg_by_leg_law : IsLegByLeg

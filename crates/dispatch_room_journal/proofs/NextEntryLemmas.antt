@@ -4,7 +4,7 @@ use Rattle.std.proofs.Common.{append-nil, append_assoc, Option, Some, None, inr}
 use Rattle.std.specs.Prelude.{⊤}
 use Rattle.std.specs.Io.KnownBytes.{Consumes, Keeps, IsAtEnd, prepend_known}
 use Rattle.std.proofs.KnownBytes.{Consumes-trans}
-use Rattle.room_model.specs.declared.digests.Head.{Head}
+use Rattle.room_model.specs.declared.digests.StartDigest.{StartDigest}
 use Rattle.dispatch_room_journal.specs.declared.entry_lines.EntryLine.TheVariants.{Room, Message}
 use Rattle.dispatch_room_journal.specs.declared.entry_prefixes.EntryLayout.{EntryLayout}
 use Rattle.dispatch_room_journal.specs.Entries.{Entry, room, message, answer, line_of, text_of}
@@ -16,10 +16,10 @@ use Rattle.dispatch_room_journal.specs.ReplayedTurns.{HasNoStatus, BeginsWith, E
 use Rattle.dispatch_room_journal.specs.ReplayedTurns.{IsAfter}
 
 -- what a line says of its entry
-pub layout_of_room : (kept : List ℕ) (layout : EntryLayout) (e : Entry) (head : Head)
+pub layout_of_room : (kept : List ℕ) (layout : EntryLayout) (e : Entry) (head : StartDigest)
     → IsLayout kept layout e → layout.line ≡ Room head → IsLayout kept layout (room head)
 layout_of_room kept layout (room d) head x is =
-    let same : d ≡ head = cc (x.line, is) in subst (λ (t : Head). IsLayout kept layout (room t)) same x
+    let same : d ≡ head = cc (x.line, is) in subst (λ (t : StartDigest). IsLayout kept layout (room t)) same x
 layout_of_room kept layout (message at sent) head x is = absurd (cc (x.line, is))
 layout_of_room kept layout (answer status) head x is = absurd (cc (x.line, is))
 
@@ -91,11 +91,11 @@ no_status_end (Some x) end text is =
     (text, refl, λ status more begins. (no_end_law text (answer status) more begins).0 (sym same ∙ end))
 
 -- a head that stands next is the one at the front
-pub head_front : (P : Head → Type 0) (left : Option (List ℕ)) (kept : List ℕ) (layout : EntryLayout)
+pub head_front : (P : StartDigest → Type 0) (left : Option (List ℕ)) (kept : List ℕ) (layout : EntryLayout)
     (e : Entry) → IsLayout kept layout e
-    → ((head : Head) → layout.line ≡ line_of (room head) → P head)
+    → ((head : StartDigest) → layout.line ≡ line_of (room head) → P head)
     → BeginsWith (prepend_known kept left) []
-    (λ rest. (head : Head) (more : List ℕ) → Begins rest (room head) more → P head)
+    (λ rest. (head : StartDigest) (more : List ℕ) → Begins rest (room head) more → P head)
 head_front P left kept layout e x is_head text is =
     let y = begins_front left kept layout e x text is in
     let first : Begins text e y.0 = (x.begins.0, y.1 ∙ ap (λ t. t ++ y.0) (append-nil (text_of e))) in (
@@ -104,8 +104,8 @@ head_front P left kept layout e x is_head text is =
       λ head more begins. is_head head (x.line ∙ ap line_of (one_entry_law text e (room head) y.0 more first begins).0),
     )
 
-pub head_end : (P : Head → Type 0) (left : Option (List ℕ)) → IsAtEnd left → BeginsWith left []
-    (λ rest. (head : Head) (more : List ℕ) → Begins rest (room head) more → P head)
+pub head_end : (P : StartDigest → Type 0) (left : Option (List ℕ)) → IsAtEnd left → BeginsWith left []
+    (λ rest. (head : StartDigest) (more : List ℕ) → Begins rest (room head) more → P head)
 head_end P None end text is = absurd (cc)
 head_end P (Some x) end text is =
     let same : x ≡ text = cc in

@@ -15,7 +15,7 @@ use Rattle.dispatch_room_journal.specs.declared.read_progress.Mode.TheVariants.{
 use Rattle.dispatch_room_journal.specs.declared.read_progress.Mode.TheVariants.{Done}
 use Rattle.dispatch_room_journal.specs.declared.read_progress.Step.TheVariants.{Moved, Passed}
 use Rattle.dispatch_room_journal.specs.declared.read_progress.Reach.{Reach}
-use Rattle.dispatch_room_journal.specs.declared.read_progress.Reach.TheVariants.{Full, Leg}
+use Rattle.dispatch_room_journal.specs.declared.read_progress.Reach.TheVariants.{Full, Segment}
 use Rattle.dispatch_room_journal.specs.Chains.{is_end, is_no_entry, is_row, said_by, sha256_digits}
 use Rattle.dispatch_room_journal.specs.RecordFronts.{Stays, body_in, comes_next, front_of, says}
 use Rattle.dispatch_room_journal.specs.RecordFronts.{stops_at}
@@ -44,7 +44,7 @@ pub no_row : (reach : Reach) (link : Link) (kept : List ℕ) (front : Front)
     → front_of sha256_digits link.check link.has_ended kept ≡ front → rows_at kept front ≡ 0
     → rows_next (Chain reach link) kept ≡ 0
 no_row Full link kept front is none = ap (rows_at kept) is ∙ none
-no_row Leg link kept front is none = refl
+no_row Segment link kept front is none = refl
 
 pub one_row : (link : Link) (kept : List ℕ) (size : ℕ) (check : List ℕ)
     → front_of sha256_digits link.check link.has_ended kept ≡ Whole size check
@@ -56,7 +56,7 @@ pub no_row_empty : (reach : Reach) (link : Link) (kept : List ℕ) → length ke
     → rows_next (Chain reach link) kept ≡ 0
 no_row_empty Full link [] none = refl
 no_row_empty Full link (byte ∷ kept) none = absurd (omega (arith, none))
-no_row_empty Leg link kept none = refl
+no_row_empty Segment link kept none = refl
 
 -- what is at the front stays so where nothing follows
 pub front_now : (link : Link) (kept : List ℕ) (front : Front)
@@ -74,7 +74,7 @@ module _ (reach : Reach) (link : Link) (kept : List ℕ) (size : ℕ) (check : L
     abbrev next_mode : Mode
     next_mode = Chain reach (record { check = check; has_ended = is_end body })
 
-    -- a leg ends before the row that stands there
+    -- a segment ends before the row that stands there
     pub stopped : stops_at reach body ≡ true → (more : List ℕ) → rest_of (Chain reach link) (kept ++ more) ≡ []
     stopped stops more =
         says_stop sha256_digits reach link.check link.has_ended (kept ++ more) size check (stays.3 more)
@@ -105,7 +105,7 @@ module _ (reach : Reach) (link : Link) (kept : List ℕ) (size : ℕ) (check : L
 
     goes_on : (r : Reach) → is_row body ≡ false → stops_at r body ≡ false
     goes_on Full none = refl
-    goes_on Leg none = none
+    goes_on Segment none = none
 
     ended_once : (has_ended : Bool) → comes_next has_ended body ≡ true → is_end body ≡ true
         → has_ended ≡ false

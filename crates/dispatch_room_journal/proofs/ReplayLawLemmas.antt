@@ -16,7 +16,7 @@ use Rattle.room_http.proofs.LawLemmas.{one_dialogue_law}
 use Rattle.room_http.proofs.DialogueLemmas.{IsDialogue-one}
 use Rattle.room_http.proofs.RunLemmas.{dialogue_run}
 use Rattle.room_http.proofs.PromiseLaws.{promises_kept}
-use Rattle.room_model.specs.declared.digests.Head.{Head}
+use Rattle.room_model.specs.declared.digests.StartDigest.{StartDigest}
 use Rattle.dispatch_room_journal.specs.Entries.{Entry, room, answer}
 use Rattle.dispatch_room_journal.specs.ReplayedTurns.{Play, Turn, compared, answered, caught_up}
 use Rattle.dispatch_room_journal.specs.ReplayedTurns.{tried, left_out, timed, entries_in}
@@ -76,11 +76,11 @@ module _ (step : Step) (setting : HttpSettings) (digest_of : DigitsOf) (terminal
   no_status_first (left_out at sent) entries status more is = cc
 
   -- where a turn begins with a head, the room has its digest
-  pub first_head : (held next : Room) (t : Turn) (entries : List Entry) (head : Head)
+  pub first_head : (held next : Room) (t : Turn) (entries : List Entry) (head : StartDigest)
       (more : List Entry) → entries_in t ++ entries ≡ room head ∷ more
       → Does step setting digest_of terminals held t next → IsHeadOf digest_of head terminals held
   first_head held next (compared d) entries head more is x =
-      let same : d ≡ head = cc in subst (λ (h : Head). IsHeadOf digest_of h terminals held) same x.1
+      let same : d ≡ head = cc in subst (λ (h : StartDigest). IsHeadOf digest_of h terminals held) same x.1
   first_head held next (answered p s) entries head more is x = absurd (cc)
   first_head held next (caught_up p d) entries head more is x = absurd (cc)
   first_head held next (tried p) entries head more is x = absurd (cc)
@@ -100,7 +100,7 @@ module _ (step : Step) (setting : HttpSettings) (digest_of : DigitsOf) (terminal
 
   -- where a head is the first of the entries, it is the room's
   abbrev pub AreMet : Room → List Entry → Type 0
-  AreMet held entries = (head : Head) (more : List Entry) → entries ≡ room head ∷ more
+  AreMet held entries = (head : StartDigest) (more : List Entry) → entries ≡ room head ∷ more
       → IsHeadOf digest_of head terminals held
 
   -- what follows a turn, after which the room is this

@@ -14,7 +14,7 @@ use Rattle.room_http.specs.KeptMessages.{AreKept, AreReplies}
 use Rattle.room_http.specs.Dialogues.{Timed, replied}
 use Rattle.room_model.specs.declared.digests.Version.{Version}
 use Rattle.room_model.specs.declared.digests.Version.TheVariants.{First, Second}
-use Rattle.room_model.specs.declared.digests.Head.{Head}
+use Rattle.room_model.specs.declared.digests.StartDigest.{StartDigest}
 use Rattle.dispatch_room_journal.specs.Entries.{Entry, room, message, answer, IsEntry, text_of}
 use Rattle.dispatch_room_journal.specs.Entries.{texts_of, head_words}
 use Rattle.dispatch_room_journal.specs.JournalRecords.{answer_text, message_text}
@@ -40,7 +40,7 @@ same_message : (at n : ℕ) (sent bytes : List ℕ) → message at sent ≡ mess
     → (at ≡ n) × (sent ≡ bytes)
 same_message at n sent bytes same = (cc, cc)
 
-no_head : (at : ℕ) (head : Head) (bytes : List ℕ) → room head ≡ message at bytes → ⊥
+no_head : (at : ℕ) (head : StartDigest) (bytes : List ℕ) → room head ≡ message at bytes → ⊥
 no_head at head bytes same = cc
 
 -- a head begins with the same byte, whatever its version is
@@ -50,7 +50,7 @@ head_byte First digits rest = refl
 head_byte Second digits rest = refl
 
 -- neither a head nor a message begins as a status does
-head_no_status : (head : Head) (rest response more : List ℕ)
+head_no_status : (head : StartDigest) (rest response more : List ℕ)
     → text_of (room head) ++ rest ≡ answer_text response ++ more → ⊥
 head_no_status head rest response more same =
     absurd (omega (arith, head_byte head.version head.digits rest, ap first_byte same))

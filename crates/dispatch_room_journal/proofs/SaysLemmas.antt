@@ -68,7 +68,7 @@ module _ (hash : List ℕ → List ℕ) (reach : Reach) where
         → says hash reach check has_ended text ≡ 0 ∷ []
     says_short text is = says_front text Short is
 
-    -- a leg ends where a row stands
+    -- a segment ends where a row stands
     pub says_stop : (text : List ℕ) (size : ℕ) (next : List ℕ)
         → front_of hash check has_ended text ≡ Whole size next
         → stops_at reach (body_in size text) ≡ true → says hash reach check has_ended text ≡ []

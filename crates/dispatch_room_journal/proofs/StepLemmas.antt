@@ -9,11 +9,11 @@ use Rattle.room_model.specs.Room.{Room}
 use Rattle.room_http.specs.declared.settings.HttpSettings.{HttpSettings}
 use Rattle.room_model.specs.Digests.{IsMiss}
 use Rattle.room_model.specs.Rooms.{Step}
-use Rattle.room_model.specs.declared.digests.Miss.{Miss}
-use Rattle.room_model.specs.declared.digests.Miss.TheVariants as miss
+use Rattle.room_model.specs.declared.digests.DigestMismatch.{DigestMismatch}
+use Rattle.room_model.specs.declared.digests.DigestMismatch.TheVariants as miss
 use Rattle.room_http.specs.Dialogues.{IsReplyTo}
 use Rattle.room_http.specs.KeptMessages.{Unmoved}
-use Rattle.room_model.specs.declared.digests.Head.{Head}
+use Rattle.room_model.specs.declared.digests.StartDigest.{StartDigest}
 use Rattle.dispatch_room_journal.specs.declared.entry_lines.EntryLine.{EntryLine}
 use Rattle.dispatch_room_journal.specs.declared.entry_prefixes.EntryLayout.{EntryLayout}
 use Rattle.dispatch_room_journal.specs.declared.entry_reader.EntryFault.{EntryFault}
@@ -52,7 +52,7 @@ WasPlayed step setting trusted stood stands at sent response =
     × stands terminals after)
 
 -- the digest of the room is that of this head, or it is not
-abbrev pub ShowsDigest : DigitsOf → Type 0 → (List Terminal → Room → Type 0) → Head → Bool → Type 0
+abbrev pub ShowsDigest : DigitsOf → Type 0 → (List Terminal → Room → Type 0) → StartDigest → Bool → Type 0
 ShowsDigest digest_of trusted stood head is =
     trusted → (terminals : List Terminal) (room : Room) → stood terminals room
     → (IsTrue is ↔ (IsHeadOf digest_of head terminals room))
@@ -87,7 +87,7 @@ module _ (step : Step) (setting : HttpSettings) (digest_of : DigitsOf) (trusted 
       (x.0, x.1, x.2, x.4, leads_tried response x, (refl, status, refl, λ same. other (ap status_in (sym x.3) ∙ same)))
 
   -- the room did not come to the digest of a head
-  pub missed : (head : Head) (m : Miss) (fault : ReplayFault)
+  pub missed : (head : StartDigest) (m : DigestMismatch) (fault : ReplayFault)
       → fault ≡ miss_fault m → IsMiss m → Unmoved trusted stood stands
       → (m ≡ miss.OtherDigest → Misses step setting digest_of trusted stood stands at sent head)
       → PlaysTowards step setting digest_of trusted stood stands {A = Unit {0}} at sent head (Err fault)
@@ -126,7 +126,7 @@ module _ (step : Step) (setting : HttpSettings) (digest_of : DigitsOf) (trusted 
 module _ (step : Step) (setting : HttpSettings) (digest_of : DigitsOf) (early late : Type 0)
     (earlier : late → early) (stood mid stands : List Terminal → Room → Type 0) (at : ℕ)
     (sent : List ℕ) where
-  pub caught_turn : (head : Head) (is : Bool) → Unmoved early stood mid
+  pub caught_turn : (head : StartDigest) (is : Bool) → Unmoved early stood mid
       → ShowsDigest digest_of early stood head is → is ≡ false
       → ComesTo step setting digest_of late mid stands at sent head
       → TurnOf step setting digest_of late stood stands at sent (room head ∷ []) false
@@ -145,7 +145,7 @@ module _ (step : Step) (setting : HttpSettings) (digest_of : DigitsOf) (early la
   }
 
   -- the message was not done, and what the room has then is as it was
-  pub stops_open : (head : Head) (is : Bool) (fault : ReplayFault)
+  pub stops_open : (head : StartDigest) (is : Bool) (fault : ReplayFault)
       → Unmoved early stood mid → ShowsDigest digest_of early stood head is → is ≡ false
       → PlaysTowards step setting digest_of late mid stands {A = Unit {0}} at sent head (Err fault)
       → StopsAt step setting digest_of late stood stands at sent (line_of (room head)) fault

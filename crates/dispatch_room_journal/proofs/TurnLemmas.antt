@@ -15,12 +15,12 @@ use Rattle.room_http.specs.declared.settings.HttpSettings.{HttpSettings}
 use Rattle.room_model.specs.Rooms.{Step}
 use Rattle.room_http.specs.Dialogues.{IsDialogue}
 use Rattle.room_http.specs.KeptMessages.{Unmoved}
-use Rattle.room_model.specs.declared.digests.Head.{Head as RoomHead}
+use Rattle.room_model.specs.declared.digests.StartDigest.{StartDigest as RoomHead}
 use Rattle.dispatch_room_journal.specs.declared.entry_prefixes.EntryLayout.{EntryLayout}
 use Rattle.dispatch_room_journal.specs.Entries.{Entry, room, message, answer, IsEntry, text_of}
 use Rattle.dispatch_room_journal.specs.Entries.{texts_of}
 use Rattle.dispatch_room_journal.specs.declared.next_entry.Next.{Next}
-use Rattle.dispatch_room_journal.specs.declared.next_entry.Next.TheVariants.{Head, Message}
+use Rattle.dispatch_room_journal.specs.declared.next_entry.Next.TheVariants.{StartDigest, Message}
 use Rattle.dispatch_room_journal.specs.declared.replay_faults.ReplayFault.{ReplayFault}
 use Rattle.dispatch_room_journal.specs.declared.replay_faults.ReplayFault.TheVariants.{Bad}
 use Rattle.dispatch_room_journal.specs.declared.replay_faults.ReplayFault.TheVariants.{Unavailable}
@@ -267,7 +267,7 @@ module _ (step : Step) (setting : HttpSettings) (digest_of : DigitsOf) (trusted 
     (until : Option ℕ) (Kind : Turn → Type 0)
     (kind : (head : RoomHead) → Kind (compared head)) (failed : Bool) (kept : List ℕ) (old new : Progress)
     (noted : new ≡ record old { is_open = false; is_begun = true }) (next : Next)
-    (is : next ≡ Head) where
+    (is : next ≡ StartDigest) where
   pub head_turn : NextIs digest_of trusted stood stands before after failed until old.is_begun kept
       (Ok next)
       → (head : RoomHead) × Passes step setting digest_of trusted stood stands before after until Kind
@@ -277,7 +277,7 @@ module _ (step : Step) (setting : HttpSettings) (digest_of : DigitsOf) (trusted 
       is found)
     where
       go : NextIs digest_of trusted stood stands before after failed until old.is_begun kept
-          (Ok Head)
+          (Ok StartDigest)
           → (head : RoomHead) × Passes step setting digest_of trusted stood stands before after until
           Kind (compared head ∷ []) × Progresses old new (compared head ∷ []) × (failed ≡ false)
       go x = (

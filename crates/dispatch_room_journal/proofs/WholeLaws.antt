@@ -17,7 +17,7 @@ use Rattle.room_http.specs.ReplyMessages.{IsDateOf, reply_bytes}
 use Rattle.room_model.specs.Rooms.{Step}
 use Rattle.room_http.specs.Arrivals.{message as arrived, is_head_only, is_closing}
 use Rattle.room_http.specs.Dialogues.{Finds, replied}
-use Rattle.room_model.specs.declared.digests.Head.{Head}
+use Rattle.room_model.specs.declared.digests.StartDigest.{StartDigest}
 use Rattle.dispatch_room_journal.specs.Entries.{Entry, room, message, answer, IsEntry, text_of}
 use Rattle.dispatch_room_journal.specs.Entries.{texts_of, Begins}
 use Rattle.dispatch_room_journal.specs.JournalRecords.{status_in}
@@ -200,14 +200,14 @@ module _ (step : Step) (setting : HttpSettings) (digest_of : DigitsOf) (terminal
   abbrev IsFor : Room → Room → Play → List ℕ → Type 0
   IsFor held next p more =
       ((status : ℕ) × (rest : List ℕ) × Begins more (answer status) rest × (status_in p.response ≡ decimal status))
-      ⊎ ((head : Head) × (rest : List ℕ) × Begins more (room head) rest × (IsHeadOf digest_of head terminals next))
+      ⊎ ((head : StartDigest) × (rest : List ℕ) × Begins more (room head) rest × (IsHeadOf digest_of head terminals next))
 
   abbrev IsDone : Room → ℕ → List ℕ → List ℕ → Type 0
   IsDone held at sent more =
       ((p : Play) × (next : Room) × IsPlay p × (p.at ≡ at) × (p.sent ≡ sent)
       × Answers step setting digest_of terminals held p next × IsFor held next p more)
       ⊎ (HasNoStatus more
-      × ((head : Head) (rest : List ℕ) → Begins more (room head) rest → IsHeadOf digest_of head terminals held))
+      × ((head : StartDigest) (rest : List ℕ) → Begins more (room head) rest → IsHeadOf digest_of head terminals held))
 
   next_message : (held after : Room) (ts : List Turn) → All IsTurn ts → All IsReplayed ts
       → All IsEntry (entries_of ts) → IsReplay step setting digest_of terminals held ts after
@@ -292,8 +292,8 @@ module _ (step : Step) (setting : HttpSettings) (digest_of : DigitsOf) (terminal
       (last_entries : All IsEntry (entries_of last))
       (y : IsReplay step setting digest_of terminals mid last end)
       (is : texts_of (entries_of vs) ≡ texts_of (entries_of last) ++ rest)
-      (Elsewhere : Option Open → Head → Type 0)
-      (elsewhere : (open_ : Option Open) (head : Head) → last ≡ [] → Elsewhere open_ head
+      (Elsewhere : Option Open → StartDigest → Type 0)
+      (elsewhere : (open_ : Option Open) (head : StartDigest) → last ≡ [] → Elsewhere open_ head
       → (¬ (IsHeadOf digest_of head terminals mid)) × WouldMiss step setting digest_of terminals mid open_ head) where
     same_rest : last ≡ [] → texts_of (entries_of vs) ≡ rest
     same_rest few = is ∙ ap (λ (l : List Turn). texts_of (entries_of l) ++ rest) few
@@ -364,7 +364,7 @@ module _ (step : Step) (setting : HttpSettings) (digest_of : DigitsOf) (terminal
         (next_message mid after vs turns kinds entries x p.at p.sent rest
         (begins_one (message p.at p.sent) (texts_of (entries_of vs)) rest entry text)))
 
-    not_astray : (o : Open) (head : Head) (mid_text more : List ℕ)
+    not_astray : (o : Open) (head : StartDigest) (mid_text more : List ℕ)
         → ¬ (IsHeadOf digest_of head terminals mid)
         → WouldMiss step setting digest_of terminals mid (Some o) head
         → Begins mid_text (room head) more → ¬ (IsDone mid o.0 o.1 mid_text)
@@ -376,10 +376,10 @@ module _ (step : Step) (setting : HttpSettings) (digest_of : DigitsOf) (terminal
         let digests : d ≡ head = cc in
         let led = one_led mid next p o.0 o.1 miss.0 miss.2.0 p_is miss.1 at sent ans miss.2.1 in
         miss.2.2 (ap (λ (r : Room). digest_of head.version terminals r) (sym led)
-        ∙ subst (λ (h : Head). IsHeadOf digest_of h terminals next) digests comes)
+        ∙ subst (λ (h : StartDigest). IsHeadOf digest_of h terminals next) digests comes)
     not_astray o head mid_text more other miss begins (inr left) = other (left.1 head more begins)
 
-    not_another : (open_ : Option Open) (head : Head) → last ≡ []
+    not_another : (open_ : Option Open) (head : StartDigest) → last ≡ []
         → IsHead true rest open_ head → ¬ (Elsewhere open_ head)
     not_another None head few (more, begins) other =
         let e = first_of (entries_of vs) (room head) more entries (begins_left few (room head) more begins) in
@@ -530,11 +530,11 @@ module _ (step : Step) (setting : HttpSettings) (digest_of : DigitsOf) (terminal
               ap (λ (r : Room). digest_of head.version terminals r) (one_room mid led.0 first led.1) ∙ led.2,
         )
 
-    abbrev Elsewhere : Option Open → Head → Type 0
+    abbrev Elsewhere : Option Open → StartDigest → Type 0
     Elsewhere = LeadsElsewhere step setting digest_of trusted stood stands (us ++ last)
 
     elsewhere : (mid : Room) → IsReplay step setting digest_of terminals held us mid
-        → (open_ : Option Open) (head : Head) → last ≡ [] → Elsewhere open_ head
+        → (open_ : Option Open) (head : StartDigest) → last ≡ [] → Elsewhere open_ head
         → (¬ (IsHeadOf digest_of head terminals mid)) × WouldMiss step setting digest_of terminals mid open_ head
     elsewhere mid first open_ head few other =
         let y = other trust terminals held stood_for in

@@ -3,7 +3,7 @@ use Rattle.std.specs.Prelude.{◌≡◌, ℕ, ◌+◌, ◌<◌, ◌≤◌, nat_l
 use Rattle.std.specs.Prelude.{decimal, Bool, true, ◌&&◌, ◌||◌, All}
 use Rattle.std.specs.List.{flat_map}
 use Rattle.room_http_messages.specs.declared.limits.TheConstants.{INBOX_ROOM}
-use Rattle.room_model.specs.declared.digests.Head.{Head}
+use Rattle.room_model.specs.declared.digests.StartDigest.{StartDigest}
 use Rattle.room_model.specs.declared.digests.Version.{Version}
 use Rattle.room_model.specs.declared.digests.Version.TheVariants.{First, Second}
 use Rattle.dispatch_room_journal.specs.declared.entry_lines.EntryLine.{EntryLine}
@@ -17,7 +17,7 @@ use Rattle.dispatch_room_journal.specs.declared.entry_lines.TheConstants.{DIGEST
 -- A part begins, and its head gives the digest of the room's rows as it began; a message was
 -- answered, which came at a moment; its answer's status.
 pub data Entry : Type 0 where
-  room : Head → Entry
+  room : StartDigest → Entry
   message : ℕ → List ℕ → Entry
   answer : ℕ → Entry
 

@@ -1,6 +1,6 @@
 -- What a journal keeps of what is served.
 use Rattle.std.specs.Prelude.{ℕ, List, [], ◌∷◌, ◌++◌, take, drop, codes}
-use Rattle.room_model.specs.declared.digests.Head.{Head}
+use Rattle.room_model.specs.declared.digests.StartDigest.{StartDigest}
 use Rattle.dispatch_room_journal.specs.Entries.{room, message, text_of}
 use Rattle.dispatch_room_journal.specs.TextParts.{IsNumber}
 use Rattle.dispatch_room_journal.specs.declared.entry_lines.TheConstants.{GREATEST_STATUS}
@@ -15,7 +15,7 @@ abbrev pub LacksStatus : List ℕ → Type 0
 LacksStatus bytes = ¬ (IsNumber LEAST_STATUS GREATEST_STATUS (status_in bytes))
 
 -- what is kept where a part begins: the head, which gives the digest of the room's rows
-abbrev pub room_text : Head → List ℕ
+abbrev pub room_text : StartDigest → List ℕ
 room_text head = text_of (room head)
 
 -- what is kept of a message: its moment and its bytes

@@ -19,7 +19,7 @@ pub mod ListTallies
 pub mod ChainLaws
 pub mod RecordRuns
 pub mod RowRuns
-pub mod Legs
+pub mod Segments
 pub mod LegLaws
 pub mod PlainTexts
 pub mod CutRecords

@@ -10,7 +10,7 @@ use Rattle.dispatch_room_journal.specs.declared.read_progress.Mode.TheVariants.{
 use Rattle.dispatch_room_journal.specs.declared.read_progress.Mode.TheVariants.{Done}
 use Rattle.dispatch_room_journal.specs.declared.read_progress.Step.{Step}
 use Rattle.dispatch_room_journal.specs.declared.read_progress.Reach.{Reach}
-use Rattle.dispatch_room_journal.specs.declared.read_progress.Reach.TheVariants.{Full, Leg}
+use Rattle.dispatch_room_journal.specs.declared.read_progress.Reach.TheVariants.{Full, Segment}
 use Rattle.dispatch_room_journal.specs.declared.read_progress.Step.TheVariants.{Ended, More, Moved}
 use Rattle.dispatch_room_journal.specs.declared.read_progress.Step.TheVariants.{Passed, Wrong}
 use Rattle.dispatch_room_journal.specs.declared.record_fronts.Front.{Front}
@@ -88,13 +88,13 @@ rows_at text Short = 0
 rows_at text NoFront = 0
 rows_at text (Whole size check) = if is_row (body_in size text) then 1 else 0
 
--- the rows that the next step passes over: in a list that is read by legs none
+-- the rows that the next step passes over: in a list that is read by segments none
 abbrev pub rows_next : Mode → List ℕ → ℕ
 rows_next (Fresh reach) kept = 0
 rows_next (Plain reach) kept = 0
 rows_next (Chain Full link) kept =
     rows_at kept (front_of sha256_digits link.check link.has_ended kept)
-rows_next (Chain Leg link) kept = 0
+rows_next (Chain Segment link) kept = 0
 rows_next (Done reach) kept = 0
 
 -- the rows that a step passed over

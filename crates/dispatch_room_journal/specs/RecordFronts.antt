@@ -12,7 +12,7 @@ use Rattle.dispatch_room_journal.specs.declared.record_fronts.Front.TheVariants.
 use Rattle.dispatch_room_journal.specs.Chains.{first_check, header, is_end, is_row, next_check}
 use Rattle.dispatch_room_journal.specs.Chains.{opening, said_by}
 use Rattle.dispatch_room_journal.specs.declared.read_progress.Reach.{Reach}
-use Rattle.dispatch_room_journal.specs.declared.read_progress.Reach.TheVariants.{Full, Leg}
+use Rattle.dispatch_room_journal.specs.declared.read_progress.Reach.TheVariants.{Full, Segment}
 
 -- the number whose five digits a text begins with
 abbrev pub number_in : List ℕ → ℕ
@@ -68,10 +68,10 @@ Stays look has_ended text (Whole size check) =
     × (comes_next has_ended (body_in size text) ≡ true)
     × ((more : List ℕ) → look (text ++ more) ≡ Whole size check)
 
--- a leg of a list ends where a row stands
+-- a segment of a list ends where a row stands
 abbrev pub stops_at : Reach → List ℕ → Bool
 stops_at Full body = false
-stops_at Leg body = is_row body
+stops_at Segment body = is_row body
 
 -- what is at the front of a text says, and then what the rest does, so far as it is read; where
 -- there is anything that is no record, a byte with which no entry begins

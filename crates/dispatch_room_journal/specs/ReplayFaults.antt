@@ -4,9 +4,9 @@ use Rattle.std.specs.Prelude.{false, Option, Some, None}
 use Rattle.room_types.specs.declared.refusal_statuses.Refusal.{Refusal}
 use Rattle.room_http_messages.specs.Messages.{WholeMessage, HasMessage}
 use Rattle.room_model.specs.Rooms.{IsUnavailable}
-use Rattle.room_model.specs.declared.digests.Miss.{Miss}
-use Rattle.room_model.specs.declared.digests.Miss.TheVariants as miss
-use Rattle.room_model.specs.declared.digests.Head.{Head}
+use Rattle.room_model.specs.declared.digests.DigestMismatch.{DigestMismatch}
+use Rattle.room_model.specs.declared.digests.DigestMismatch.TheVariants as miss
+use Rattle.room_model.specs.declared.digests.StartDigest.{StartDigest}
 use Rattle.dispatch_room_journal.specs.declared.entry_reader.EntryFault.{EntryFault}
 use Rattle.dispatch_room_journal.specs.declared.entry_reader.EntryFault.TheVariants.{Cut, Foreign}
 use Rattle.dispatch_room_journal.specs.declared.entry_reader.EntryFault.TheVariants.{Read}
@@ -40,10 +40,10 @@ IsUnavailableFault fault = (r : Refusal) × (fault ≡ Unavailable r) × IsUnava
 
 -- what stands after a message is what it is played for: a status, or a head of another room than
 -- the one before the message (`Elsewhere`)
-abbrev pub IsPlayedFor : (Option Open → Head → Type 0) → List ℕ → Type 0
+abbrev pub IsPlayedFor : (Option Open → StartDigest → Type 0) → List ℕ → Type 0
 IsPlayedFor Elsewhere rest =
     ((status : ℕ) × (more : List ℕ) × Begins rest (answer status) more)
-    ⊎ ((head : Head) × (more : List ℕ) × Begins rest (room head) more
+    ⊎ ((head : StartDigest) × (more : List ℕ) × Begins rest (room head) more
     × Elsewhere None head)
 
 -- Why what stands after the turns is bad. It is no journal; or it is a status that no message
@@ -51,7 +51,7 @@ IsPlayedFor Elsewhere rest =
 -- a message that is none. Or no more turns are taken (`full`). Where a message waits for what
 -- stands after it (`waits`), it is not played where that is no journal, and nothing is said of its
 -- bytes where it is left out.
-pub data IsBad (waits : Bool) (none full : Type 0) (Elsewhere : Option Open → Head → Type 0)
+pub data IsBad (waits : Bool) (none full : Type 0) (Elsewhere : Option Open → StartDigest → Type 0)
     (last : List Turn) (rest : List ℕ) : Type 0 where
   broken : (waits ≡ true → last ≡ []) → IsBroken rest → IsBad waits none full Elsewhere last rest
   broken_after : (at : ℕ) (sent more : List ℕ) → waits ≡ true → last ≡ []
@@ -67,7 +67,7 @@ pub data IsBad (waits : Bool) (none full : Type 0) (Elsewhere : Option Open → 
   too_many : full → IsBad waits none full Elsewhere last rest
 
 -- A head stands next; or an open message, which waits for what stands after it, and then a head.
-abbrev pub IsHead : Bool → List ℕ → Option Open → Head → Type 0
+abbrev pub IsHead : Bool → List ℕ → Option Open → StartDigest → Type 0
 IsHead waits rest None head = (more : List ℕ) × Begins rest (room head) more
 IsHead waits rest (Some open_) head =
     (waits ≡ true) × (mid : List ℕ) × (more : List ℕ)
@@ -77,7 +77,7 @@ IsHead waits rest (Some open_) head =
 -- that was played last; or a head of another room than the turns lead to, or than they would lead
 -- to by an open message before it (`Elsewhere`). Then no message was played that was not compared,
 -- and the open one neither.
-module _ (waits : Bool) (none full : Type 0) (Elsewhere : Option Open → Head → Type 0)
+module _ (waits : Bool) (none full : Type 0) (Elsewhere : Option Open → StartDigest → Type 0)
     (last : List Turn) where
   abbrev pub Explains : ReplayFault → List ℕ → Type 0
   Explains Bad rest = IsBad waits none full Elsewhere last rest
@@ -85,7 +85,7 @@ module _ (waits : Bool) (none full : Type 0) (Elsewhere : Option Open → Head �
       (p : Play) × (status : ℕ) × (more : List ℕ) × (last ≡ tried p ∷ [])
       × Begins rest (answer status) more × (¬ (status_in p.response ≡ decimal status))
   Explains OtherRoom rest =
-      (last ≡ []) × (open_ : Option Open) × (head : Head) × IsHead waits rest open_ head
+      (last ≡ []) × (open_ : Option Open) × (head : StartDigest) × IsHead waits rest open_ head
       × Elsewhere open_ head
   Explains ReadFailed rest = ⊤
   Explains WriteFailed rest = ⊤
@@ -102,7 +102,7 @@ module _ (read_failed write_failed : Bool) where
   IsDueTo (Unavailable r) = (read_failed ≡ false) × (write_failed ≡ false) × IsUnavailable r
 
 -- the fault that reports that a room did not come to a digest
-abbrev pub miss_fault : Miss → ReplayFault
+abbrev pub miss_fault : DigestMismatch → ReplayFault
 miss_fault miss.OtherDigest = OtherRoom
 miss_fault (miss.Unavailable r) = Unavailable r
 

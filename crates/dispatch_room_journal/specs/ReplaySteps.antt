@@ -9,7 +9,7 @@ use Rattle.room_http.specs.declared.settings.HttpSettings.{HttpSettings}
 use Rattle.room_model.specs.Rooms.{Step}
 use Rattle.room_http.specs.Dialogues.{IsReplyTo}
 use Rattle.room_http.specs.KeptMessages.{Unmoved}
-use Rattle.room_model.specs.declared.digests.Head.{Head}
+use Rattle.room_model.specs.declared.digests.StartDigest.{StartDigest}
 use Rattle.dispatch_room_journal.specs.declared.entry_lines.EntryLine.{EntryLine}
 use Rattle.dispatch_room_journal.specs.Entries.{Entry, room, message, answer, IsEntry, line_of}
 use Rattle.dispatch_room_journal.specs.Entries.{texts_of, Begins}
@@ -36,14 +36,14 @@ use Rattle.dispatch_room_journal.specs.Replays.{DigitsOf, Leads, LeadsElsewhere,
 use Rattle.dispatch_room_journal.specs.Replays.{WouldMiss, IsHeadOf}
 
 -- the room has the digest of this head
-abbrev pub IsAt : DigitsOf → Type 0 → (List Terminal → Room → Type 0) → Head → Type 0
+abbrev pub IsAt : DigitsOf → Type 0 → (List Terminal → Room → Type 0) → StartDigest → Type 0
 IsAt digest_of trusted stood head = trusted → (terminals : List Terminal) (held : Room)
     → stood terminals held → IsHeadOf digest_of head terminals held
 
 -- a head that stands next is the room's
 abbrev pub HasItsHead : DigitsOf → Type 0 → (List Terminal → Room → Type 0) → List ℕ → Type 0
 HasItsHead digest_of trusted stood rest =
-    (head : Head) (more : List ℕ) → Begins rest (room head) more
+    (head : StartDigest) (more : List ℕ) → Begins rest (room head) more
     → IsAt digest_of trusted stood head
 
 -- The bytes are one message, and the room answered it; or nothing was done, and why.
@@ -84,14 +84,14 @@ module _ (step : Step) (setting : HttpSettings) (digest_of : DigitsOf) (trusted 
   -- this line is a head of another room than the message would lead to
   abbrev pub IsAstray : ℕ → List ℕ → EntryLine → ReplayFault → Type 0
   IsAstray at sent line fault =
-      (fault ≡ OtherRoom) × (head : Head) × (line ≡ line_of (room head))
+      (fault ≡ OtherRoom) × (head : StartDigest) × (line ≡ line_of (room head))
       × LeadsElsewhere step setting digest_of trusted stood stands [] (Some (at, sent)) head
 
   -- a message is played for this line: it is a status, or a head to which the room has not come
   abbrev pub IsPlayedForLine : EntryLine → Type 0
   IsPlayedForLine line =
       ((status : ℕ) × (line ≡ line_of (answer status)))
-      ⊎ ((head : Head) × (line ≡ line_of (room head))
+      ⊎ ((head : StartDigest) × (line ≡ line_of (room head))
       × LeadsElsewhere step setting digest_of trusted stood stands [] None head)
 
   -- why a message before this line is not played: memory or storage fails, or its bytes are no
@@ -108,7 +108,7 @@ module _ (step : Step) (setting : HttpSettings) (digest_of : DigitsOf) (trusted 
       × Leads step setting digest_of trusted stood stands (tried p ∷ []) × Deviates p line fault)
 
   -- the message was played, and the room has come to the digest of this head
-  abbrev pub ComesTo : ℕ → List ℕ → Head → Type 0
+  abbrev pub ComesTo : ℕ → List ℕ → StartDigest → Type 0
   ComesTo at sent head =
       (p : Play) × (p.at ≡ at) × (p.sent ≡ sent) × IsPlay p
       × (trusted → (terminals : List Terminal) (room : Room) → stood terminals room
@@ -116,14 +116,14 @@ module _ (step : Step) (setting : HttpSettings) (digest_of : DigitsOf) (trusted 
       × (IsHeadOf digest_of head terminals after) × stands terminals after)
 
   -- where the room has another digest than this head gives, so it would have after the message
-  abbrev pub Misses : ℕ → List ℕ → Head → Type 0
+  abbrev pub Misses : ℕ → List ℕ → StartDigest → Type 0
   Misses at sent head =
       trusted → (terminals : List Terminal) (held : Room) → stood terminals held
       → (¬ (IsHeadOf digest_of head terminals held))
       → WouldMiss step setting digest_of terminals held (Some (at, sent)) head
 
   -- the room has come to the digest of this head by the message; or nothing was done, and why
-  abbrev pub PlaysTowards : {A : Type 0} → ℕ → List ℕ → Head → Result A ReplayFault → Type 0
+  abbrev pub PlaysTowards : {A : Type 0} → ℕ → List ℕ → StartDigest → Result A ReplayFault → Type 0
   PlaysTowards at sent head (Ok done) = ComesTo at sent head
   PlaysTowards at sent head (Err fault) = Unmoved trusted stood stands
       × (Refuses sent fault ⊎ ((fault ≡ OtherRoom) × Misses at sent head))
@@ -135,7 +135,7 @@ module _ (step : Step) (setting : HttpSettings) (digest_of : DigitsOf) (trusted 
       (e : Entry) × IsMark e × (line ≡ line_of e) × TurnOf at sent (e ∷ []) false
   Settles at sent line (Ok false) =
       TurnOf at sent [] true × ((status : ℕ) → ¬ (line ≡ line_of (answer status)))
-      × ((head : Head) → line ≡ line_of (room head) → IsAt digest_of trusted stood head)
+      × ((head : StartDigest) → line ≡ line_of (room head) → IsAt digest_of trusted stood head)
   Settles at sent line (Err fault) = StopsAt at sent line fault
 
   -- Why it stopped, after a head or not, with the text before: nothing more was done, or one
@@ -173,7 +173,7 @@ module _ (step : Step) (setting : HttpSettings) (digest_of : DigitsOf) (trusted 
 
 -- the room has another digest than this head gives, and no message is open
 abbrev pub IsElsewhere : DigitsOf → Type 0 → (List Terminal → Room → Type 0)
-    → (List Terminal → Room → Type 0) → Option Open → Head → Type 0
+    → (List Terminal → Room → Type 0) → Option Open → StartDigest → Type 0
 IsElsewhere digest_of trusted stood stands open_ head =
     (open_ ≡ None) × (trusted → (terminals : List Terminal) (held : Room) → stood terminals held
     → (¬ (IsHeadOf digest_of head terminals held)) × stands terminals held)
@@ -183,8 +183,8 @@ module _ (digest_of : DigitsOf) (trusted : Type 0) (stood stands : List Terminal
   -- What stands next, up to this moment: a head, which was taken and is that of the room; a
   -- message, which is at the front; or the end. A head came before a message.
   abbrev pub NextIs : Option ℕ → Bool → List ℕ → Result Next ReplayFault → Type 0
-  NextIs until begun kept (Ok next.Head) =
-      (head : Head) × IsEntry (room head)
+  NextIs until begun kept (Ok next.StartDigest) =
+      (head : StartDigest) × IsEntry (room head)
       × Consumes before after (texts_of (room head ∷ [])) × (failed ≡ false)
       × (trusted → (terminals : List Terminal) (held : Room) → stood terminals held
       → (IsHeadOf digest_of head terminals held) × stands terminals held)

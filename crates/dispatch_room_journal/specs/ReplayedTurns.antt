@@ -2,7 +2,7 @@
 use Rattle.std.specs.Prelude.{◌≡◌, ℕ, ◌<◌, ◌≤◌, ◌⊎◌, ⊤, List, [], ◌∷◌, ◌++◌, map, decimal, All}
 use Rattle.std.specs.Prelude.{Bool, true, false, Option, Some, None}
 use Rattle.std.specs.List.{flat_map}
-use Rattle.room_model.specs.declared.digests.Head.{Head}
+use Rattle.room_model.specs.declared.digests.StartDigest.{StartDigest}
 use Rattle.dispatch_room_journal.specs.Entries.{Entry, room, message, answer, IsEntry, texts_of}
 use Rattle.dispatch_room_journal.specs.Entries.{Begins}
 use Rattle.dispatch_room_journal.specs.JournalRecords.{status_in}
@@ -27,9 +27,9 @@ pub record Play : Type 0 where
 -- none, is played before a head to which the room has not come, and comes by it (`caught_up`), or
 -- without a look at what follows it (`tried`), or it is left out.
 pub data Turn : Type 0 where
-  compared : Head → Turn
+  compared : StartDigest → Turn
   answered : Play → ℕ → Turn
-  caught_up : Play → Head → Turn
+  caught_up : Play → StartDigest → Turn
   tried : Play → Turn
   left_out : ℕ → List ℕ → Turn
 
@@ -139,7 +139,7 @@ IsAfter (Some until) at = until < at
 
 -- the first turn is a head
 abbrev pub IsBegun : List Turn → Type 0
-IsBegun ts = (head : Head) × (more : List Turn) × (ts ≡ compared head ∷ more)
+IsBegun ts = (head : StartDigest) × (more : List Turn) × (ts ≡ compared head ∷ more)
 
 -- a head came, and then it was the first; or nothing came
 abbrev pub StartsBy : Bool → List Turn → Type 0

@@ -10,7 +10,7 @@ use Rattle.room_http.specs.Arrivals.{message as arrived}
 use Rattle.room_http.specs.Dialogues.{IsDialogue, IsReplyTo}
 use Rattle.room_http.specs.DigestReplies.{LeadsToAnother}
 use Rattle.room_http_messages.specs.Messages.{WholeMessage, HasMessage}
-use Rattle.room_model.specs.declared.digests.Head.{Head}
+use Rattle.room_model.specs.declared.digests.StartDigest.{StartDigest}
 use Rattle.dispatch_room_journal.specs.Entries.{Begins}
 use Rattle.dispatch_room_journal.specs.Entries as entry
 use Rattle.dispatch_room_journal.specs.declared.replay_faults.ReplayFault.{ReplayFault}
@@ -60,13 +60,13 @@ Leads step setting digest_of trusted stood stands ts =
 abbrev pub MeetsHead : Step → HttpSettings → DigitsOf → Type 0 → (List Terminal → Room → Type 0)
     → List Turn → List ℕ → Type 0
 MeetsHead step setting digest_of trusted stood ts rest =
-    (head : Head) (more : List ℕ) → Begins rest (entry.room head) more
+    (head : StartDigest) (more : List ℕ) → Begins rest (entry.room head) more
     → trusted → (terminals : List Terminal) (held : Room) → stood terminals held
     → (after : Room) × IsReplay step setting digest_of terminals held ts after
     × (IsHeadOf digest_of head terminals after)
 
 -- an open message would lead a room to another digest than this head gives, if there is one
-abbrev pub WouldMiss : Step → HttpSettings → DigitsOf → List Terminal → Room → Option Open → Head
+abbrev pub WouldMiss : Step → HttpSettings → DigitsOf → List Terminal → Room → Option Open → StartDigest
     → Type 0
 WouldMiss step setting digest_of terminals room None head = ⊤
 WouldMiss step setting digest_of terminals room (Some open_) head =
@@ -76,7 +76,7 @@ WouldMiss step setting digest_of terminals room (Some open_) head =
 -- The same, to a room that has another digest than this head gives, and would have another one
 -- after an open message, if there is one. That message was not done.
 abbrev pub LeadsElsewhere : Step → HttpSettings → DigitsOf → Type 0 → (List Terminal → Room → Type 0)
-    → (List Terminal → Room → Type 0) → List Turn → Option Open → Head → Type 0
+    → (List Terminal → Room → Type 0) → List Turn → Option Open → StartDigest → Type 0
 LeadsElsewhere step setting digest_of trusted stood stands ts open_ head =
     trusted → (terminals : List Terminal) (room : Room) → stood terminals room
     → (after : Room) × IsReplay step setting digest_of terminals room ts after

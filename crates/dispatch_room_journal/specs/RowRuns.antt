@@ -3,7 +3,7 @@ use Rattle.std.specs.Prelude.{◌≡◌, ◌≢◌, ℕ, List, [], ◌++◌, Boo
 use Rattle.std.specs.Prelude.{Ok, Err}
 use Rattle.std.specs.List.{flat_map}
 use Rattle.std.specs.Io.KnownBytes.{Appends}
-use Rattle.room_model.specs.declared.digests.Head.{Head}
+use Rattle.room_model.specs.declared.digests.StartDigest.{StartDigest}
 use Rattle.dispatch_room_journal.specs.declared.list_ends.ListEnd.{ListEnd}
 use Rattle.dispatch_room_journal.specs.declared.list_ends.ListEnd.TheVariants.{Chain, Plain}
 use Rattle.dispatch_room_journal.specs.declared.record_fronts.Link.{Link}
@@ -31,7 +31,7 @@ abbrev pub HeadIs : List ℕ → Behind → Type 0
 HeadIs body Unread = ⊥
 HeadIs body End = ⊥
 HeadIs body (Room head) = IsEntry (room head) × (body ≡ text_of (room head))
-HeadIs body Other = (head : Head) → IsEntry (room head) → body ≢ text_of (room head)
+HeadIs body Other = (head : StartDigest) → IsEntry (room head) → body ≢ text_of (room head)
 
 -- What stands behind rows: nothing; a head; or anything else, which is no row.
 abbrev pub BehindIs : Link → List ℕ → Behind → Type 0
@@ -39,7 +39,7 @@ BehindIs link text Unread = ⊥
 BehindIs link text End = text ≡ []
 BehindIs link text (Room head) = IsEntry (room head) × GoesOnWith link (text_of (room head)) text
 BehindIs link text Other = (text ≢ [])
-    × ((head : Head) → IsEntry (room head) → ¬ (GoesOnWith link (text_of (room head)) text))
+    × ((head : StartDigest) → IsEntry (room head) → ¬ (GoesOnWith link (text_of (room head)) text))
     × ((body : List ℕ) → IsRow body → ¬ (GoesOnWith link body text))
 
 -- the text that follows a record begins with rows, all that stand there, which have these lines

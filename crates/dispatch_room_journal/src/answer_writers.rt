@@ -6,7 +6,7 @@ ghost use Rattle.room_http_messages.specs.Streams.{WritesAll, took_none};
 use room_http_messages::sinks::WriteFailed;
 use std::io::Write;
 
-/// An output to which answers are written, and whether a write of this leg failed, or took nothing.
+/// An output to which answers are written, and whether a write of this segment failed, or took nothing.
 #[derive(Drop)]
 pub struct AnswerWriter<'a, O> {
     output: &'a mut O,
@@ -26,7 +26,7 @@ impl<'a, O: Write> AnswerWriter<'a, O> {
         }
     }
 
-    /// Begins a leg, of which no write has failed.
+    /// Begins a segment, of which no write has failed.
     pub fn begin(&mut self)
         ensures same_reference { self.new.output.ghost_name ≡ self.old.output.ghost_name }
         ensures output { self.new.output.now ≡ self.old.output.now }

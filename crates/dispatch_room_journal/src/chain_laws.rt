@@ -20,7 +20,7 @@ pub fn written()
     ensures { IsWritten }
 {}
 
-/// What a list says is its legs, one after another.
+/// What a list says is its segments, one after another.
 pub fn leg_by_leg()
     ensures { IsLegByLeg }
 {}

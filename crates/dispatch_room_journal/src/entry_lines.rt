@@ -8,7 +8,7 @@ use crate::journal_digests::are_digest_digits;
 use crate::journal_numbers::number;
 use memchr::memchr;
 use room_http_messages::limits::INBOX_ROOM;
-use room_model::digests::{Head, Version};
+use room_model::digests::{StartDigest, Version};
 use room_types::numbers::{LAST_MOMENT, Moment};
 
 /// The least status of an answer.
@@ -27,7 +27,7 @@ pub const DIGEST_DIGITS: usize = 64;
 #[derive(Clone, Copy)]
 pub enum EntryLine {
     /// A part begins, at a room whose rows have this digest.
-    Room(Head),
+    Room(StartDigest),
     /// A message that was answered came at this moment, and has so many bytes.
     Message { at: Moment, size: usize },
     /// The message before it was answered with this status.
@@ -65,7 +65,7 @@ fn room_line(version: Version, digits: &[u8]) -> Option<EntryLine>
     }
     let mut digest = [0; DIGEST_DIGITS];
     digest.copy_from_slice(digits);
-    Some(EntryLine::Room(Head {
+    Some(EntryLine::Room(StartDigest {
         version,
         digits: digest,
     }))

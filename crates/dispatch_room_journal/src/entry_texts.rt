@@ -9,7 +9,7 @@ use crate::journal_inbox::ENTRY_ROOM;
 use crate::line_texts::append;
 use arrayvec::ArrayVec;
 use itoa::Buffer;
-use room_model::digests::Head;
+use room_model::digests::StartDigest;
 use room_types::numbers::Moment;
 
 /// The text of one entry, as it is written. It has room for the longest.
@@ -20,7 +20,7 @@ pub struct EntryText {
 
 impl EntryText {
     /// That a part begins, at a room whose rows have this digest.
-    pub fn room(head: &Head) -> EntryText
+    pub fn room(head: &StartDigest) -> EntryText
         requires { IsDigest head.now.digits }
         ensures { result.text.items ≡ text_of (room head.now) }
     {

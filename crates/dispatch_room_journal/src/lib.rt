@@ -34,7 +34,7 @@
 //! fleet's file, which an import puts there. Neither is an entry.
 //!
 //! `ListSource` reads what the records say, and a byte with which no entry begins where a record is
-//! not the one that comes next: all that a list says, over the rows in it, or one leg after
+//! not the one that comes next: all that a list says, over the rows in it, or one segment after
 //! another, each up to the next row, and the rows between them. `put_record` writes a record, and
 //! `verify` looks a whole list through.
 //!

@@ -10,9 +10,10 @@ ghost use Rattle.dispatch_room_journal.specs.ReadSteps.{Advances, Nearer, Passes
 ghost use Rattle.dispatch_room_journal.specs.ReadSteps.{ends_well, last_of, left_in, most_rows};
 ghost use Rattle.dispatch_room_journal.specs.ReadSteps.{reach_of, rest_of, rows_next, rows_of};
 ghost use Rattle.dispatch_room_journal.specs.RowRuns.{is_read};
-ghost use Rattle.dispatch_room_journal.specs.Legs.{TakesIn, left_to};
+ghost use Rattle.dispatch_room_journal.specs.Segments.{TakesIn, left_to};
 ghost use Rattle.dispatch_room_journal.specs.declared.record_inbox.TheConstants.{RECORD_ROOM};
-ghost use Rattle.dispatch_room_journal.specs.declared.read_progress.Reach.TheVariants.{Full, Leg};
+ghost use Rattle.dispatch_room_journal.specs.declared.read_progress.Reach.TheVariants.{Full};
+ghost use Rattle.dispatch_room_journal.specs.declared.read_progress.Reach.TheVariants.{Segment};
 ghost use Rattle.dispatch_room_journal.specs.declared.read_progress.Mode.TheVariants.{Chain};
 ghost use Rattle.dispatch_room_journal.specs.declared.row_runs.Behind.TheVariants.{Unread};
 
@@ -22,7 +23,7 @@ use crate::row_runs::{Behind, RowsFault, take_run};
 use room_http_messages::sources::{ReadFailed, Source};
 
 /// What the records of a list say, and a byte with which no entry begins where a record is not the
-/// one that comes next. Either all that the list says is read, over the rows in it; or one leg
+/// one that comes next. Either all that the list says is read, over the rows in it; or one segment
 /// after another, each up to the next row, and the rows between them are taken.
 #[derive(Drop)]
 pub struct ListSource<R> {
@@ -32,8 +33,8 @@ pub struct ListSource<R> {
     // The number of the rows that were passed over. As many as this counts are too many.
     passed: u64,
     ghost fits: { passed ≤ most_rows },
-    // By legs none are, so nothing but a read of the list fails.
-    ghost legs: { reach_of cursor.mode ≡ Leg → passed ≡ 0 },
+    // By segments none are, so nothing but a read of the list fails.
+    ghost segments: { reach_of cursor.mode ≡ Segment → passed ≡ 0 },
 }
 
 impl<R: Source> ListSource<R> {
@@ -54,18 +55,18 @@ impl<R: Source> ListSource<R> {
         }
     }
 
-    /// The first leg of a list of which nothing was read.
+    /// The first segment of a list of which nothing was read.
     pub fn by_legs(reader: R) -> ListSource<R>
         ensures left { left_in result.cursor.mode result.cursor.vouched result.cursor.inbox
-            (R.left result.reader) ≡ option_map (list_says sha256_digits Leg) (R.left reader) }
+            (R.left result.reader) ≡ option_map (list_says sha256_digits Segment) (R.left reader) }
         ensures reader { result.reader ≡ reader }
         ensures fresh { result.has_ended ≡ false }
         ensures none { result.passed ≡ 0 }
-        ensures reach { reach_of result.cursor.mode ≡ Leg }
+        ensures reach { reach_of result.cursor.mode ≡ Segment }
     {
         ListSource {
             reader,
-            cursor: JournalCursor::new(Reach::Leg),
+            cursor: JournalCursor::new(Reach::Segment),
             has_ended: false,
             passed: 0,
         }
@@ -88,8 +89,8 @@ impl<R: Source> ListSource<R> {
         }
     }
 
-    /// Takes the rows that stand behind a leg which was read to its end, and puts their lines
-    /// behind `rows`. What stands behind them is the next leg. A list that is no chain has none.
+    /// Takes the rows that stand behind a segment which was read to its end, and puts their lines
+    /// behind `rows`. What stands behind them is the next segment. A list that is no chain has none.
     pub fn take_rows(&mut self, rows: &mut Vec<u8>) -> Result<Behind, RowsFault>
         requires sound { (R.has_failed self.old.reader || self.old.passed == most_rows) ≡ false }
         ensures failed { (R.has_failed self.new.reader || self.new.passed == most_rows)
@@ -113,7 +114,7 @@ impl<R: Source> ListSource<R> {
             return Ok(Behind::Unread);
         }
         match self.cursor.mode {
-            Mode::Chain(Reach::Leg, link) => self.take_behind(&link, rows),
+            Mode::Chain(Reach::Segment, link) => self.take_behind(&link, rows),
             Mode::Chain(Reach::Full, _) => Ok(Behind::End),
             Mode::Fresh(_) => Ok(Behind::End),
             Mode::Plain(_) => Ok(Behind::End),
@@ -125,13 +126,13 @@ impl<R: Source> ListSource<R> {
     fn take_behind(&mut self, link: &Link, rows: &mut Vec<u8>) -> Result<Behind, RowsFault>
         requires sound { (R.has_failed self.old.reader || self.old.passed == most_rows) ≡ false }
         requires none { self.old.cursor.vouched ≡ 0 }
-        requires mode { self.old.cursor.mode ≡ Chain Leg link.now }
+        requires mode { self.old.cursor.mode ≡ Chain Segment link.now }
         ensures failed { (R.has_failed self.new.reader || self.new.passed == most_rows)
             ≡ is_read result }
         ensures same { self.new.passed ≡ self.old.passed }
-        ensures reach { reach_of self.new.cursor.mode ≡ Leg }
+        ensures reach { reach_of self.new.cursor.mode ≡ Segment }
         ensures none { self.new.cursor.vouched ≡ 0 }
-        ensures taken { IfOk result (TakesIn (Chain Leg link.now) self.new.cursor.mode
+        ensures taken { IfOk result (TakesIn (Chain Segment link.now) self.new.cursor.mode
             (prepend_known self.old.cursor.inbox (R.left self.old.reader))
             (prepend_known self.new.cursor.inbox (R.left self.new.reader))
             rows.old.items rows.new.items) }
@@ -139,12 +140,12 @@ impl<R: Source> ListSource<R> {
         let mut next = *link;
         match take_run(&mut self.cursor.inbox, &mut self.reader, &mut next, rows) {
             Ok(behind) => {
-                self.cursor.mode = Mode::Chain(Reach::Leg, next);
+                self.cursor.mode = Mode::Chain(Reach::Segment, next);
                 self.has_ended = false;
                 Ok(behind)
             }
             Err(fault) => {
-                self.cursor.mode = Mode::Done(Reach::Leg);
+                self.cursor.mode = Mode::Done(Reach::Segment);
                 Err(fault)
             }
         }

@@ -21,7 +21,7 @@ use room_types::numbers::Moment;
 #[derive(Clone, Copy)]
 pub enum Next {
     /// A head, which was taken: the room has its digest.
-    Head,
+    StartDigest,
     /// A message, which is at the front of the inbox.
     Message(MessageEntry),
     /// Nothing, or a message that is later than the last to be played.
@@ -83,7 +83,7 @@ pub fn next_entry<R: Source, M: Digested>(
             EntryLine::Room(head) => match is_at(room, head) {
                 Ok(true) => {
                     inbox.remove(&layout);
-                    Ok(Next::Head)
+                    Ok(Next::StartDigest)
                 }
                 Ok(false) => Err(ReplayFault::OtherRoom),
                 Err(fault) => Err(fault),

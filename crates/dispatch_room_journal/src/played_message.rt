@@ -22,7 +22,7 @@ use room_http::handlers::Handler;
 use room_http::replies::reply;
 use room_http_messages::message_prefixes::{MessagePrefix, look_at};
 use room_http_messages::messages::Message;
-use room_model::digests::{Digested, Head, Miss};
+use room_model::digests::{DigestMismatch, Digested, StartDigest};
 use room_model::rooms::Room;
 use room_types::numbers::Moment;
 
@@ -92,7 +92,7 @@ pub fn play_towards<M: Digested>(
     room: &mut M,
     sent: &[u8],
     at: Moment,
-    head: &Head,
+    head: &StartDigest,
 ) -> Result<(), ReplayFault>
     requires ready { M.is_ready room.old }
     requires fits { length sent.now ≤ INBOX_ROOM }
@@ -127,12 +127,12 @@ pub fn play_towards<M: Digested>(
 }
 
 // The fault that reports that a room did not come to a digest.
-fn fault_of(miss: Miss) -> ReplayFault
+fn fault_of(miss: DigestMismatch) -> ReplayFault
     ensures { result ≡ miss_fault miss }
 {
     match miss {
-        Miss::OtherDigest => ReplayFault::OtherRoom,
-        Miss::Unavailable(refusal) => ReplayFault::Unavailable(refusal),
+        DigestMismatch::OtherDigest => ReplayFault::OtherRoom,
+        DigestMismatch::Unavailable(refusal) => ReplayFault::Unavailable(refusal),
     }
 }
 
@@ -144,7 +144,7 @@ pub fn has_status(answer: &[u8], status: u16) -> bool
 }
 
 /// Whether the digest of the room's rows is that of this head.
-pub fn is_at<M: Digested>(room: &mut M, head: &Head) -> Result<bool, ReplayFault>
+pub fn is_at<M: Digested>(room: &mut M, head: &StartDigest) -> Result<bool, ReplayFault>
     requires { M.is_ready room.old }
     ensures ready { M.is_ready room.new }
     ensures zone { M.zone room.new ≡ M.zone room.old }

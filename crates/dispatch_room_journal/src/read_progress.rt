@@ -10,7 +10,7 @@ pub enum Reach {
     /// To its end, over the rows in it.
     Full,
     /// To the next row.
-    Leg,
+    Segment,
 }
 
 /// How far a list was read.

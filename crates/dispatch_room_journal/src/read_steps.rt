@@ -105,7 +105,7 @@ impl JournalCursor {
         }
     }
 
-    // In a chain: takes the record that comes next. A row is passed over, or a leg ends before it.
+    // In a chain: takes the record that comes next. A row is passed over, or a segment ends before it.
     fn follow(&mut self, reach: Reach, link: &Link) -> Step
         requires chain { self.old.mode ≡ Chain reach link.now }
         requires none { self.old.vouched ≡ 0 }
@@ -129,7 +129,7 @@ impl JournalCursor {
                         self.take(reach, size, check);
                         Step::Passed
                     }
-                    Reach::Leg => Step::Ended,
+                    Reach::Segment => Step::Ended,
                 }
             }
         }

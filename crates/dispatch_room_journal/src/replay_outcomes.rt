@@ -10,7 +10,7 @@ use crate::entry_lines::EntryLine;
 use crate::played_message::{has_status, is_at, play, play_towards};
 use crate::replay_faults::ReplayFault;
 use room_http::handlers::Handler;
-use room_model::digests::{Digested, Head};
+use room_model::digests::{Digested, StartDigest};
 use room_types::numbers::Moment;
 
 /// Plays a message that has this status, whose entry is taken with it.
@@ -52,7 +52,7 @@ fn replay_unanswered<M: Digested>(
     room: &mut M,
     sent: &[u8],
     at: Moment,
-    head: &Head,
+    head: &StartDigest,
 ) -> Result<bool, ReplayFault>
     requires ready { M.is_ready room.old }
     requires fits { length sent.now ≤ INBOX_ROOM }

@@ -123,7 +123,7 @@ fn replay_turn<R: Source, M: Digested>(
         Err(fault) => Err(fault),
         Ok(next) => match &next {
             Next::End => Ok(false),
-            Next::Head => {
+            Next::StartDigest => {
                 progress.note_head();
                 Ok(true)
             }

@@ -19,7 +19,7 @@ use crate::record_inbox::RecordInbox;
 use crate::whole_records::{ends_with, read_more};
 use arrayvec::ArrayVec;
 use room_http_messages::sources::Source;
-use room_model::digests::Head;
+use room_model::digests::StartDigest;
 
 /// The bytes of the longest line of a row, without its end.
 pub const ROW_ROOM: usize = ENTRY_ROOM - 5;
@@ -32,7 +32,7 @@ pub enum Behind {
     /// Nothing: the list ends.
     End,
     /// A part begins, at a room whose rows have this digest.
-    Room(Head),
+    Room(StartDigest),
     /// Anything else.
     Other,
 }

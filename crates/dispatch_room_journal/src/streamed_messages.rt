@@ -125,7 +125,7 @@ fn answer_turn<R: Source, O: Write, M: Digested>(
         Err(fault) => Err(fault),
         Ok(next) => match &next {
             Next::End => Ok(false),
-            Next::Head => {
+            Next::StartDigest => {
                 progress.note_head();
                 Ok(true)
             }

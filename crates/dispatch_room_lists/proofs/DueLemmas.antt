@@ -12,7 +12,7 @@ use Rattle.room_model.specs.Digests.{DigitsOf, IsHeadOf}
 use Rattle.room_model.specs.FleetRows.{room_by, room_enrolled, terminals_by, terminals_enrolled}
 use Rattle.room_model.specs.Fleets.{enrolled}
 use Rattle.room_model.specs.Room.{Room}
-use Rattle.room_model.specs.declared.digests.Head.{Head}
+use Rattle.room_model.specs.declared.digests.StartDigest.{StartDigest}
 use Rattle.room_store.proofs.EnrolledLaws.{after_row, enrolled_more}
 use Rattle.room_store.specs.FleetEnrolment.{HasEnrolled, room_after_rows, terminals_after_rows}
 use Rattle.room_store.specs.StoredRoom.{IsReady, IsRoom}
@@ -44,7 +44,7 @@ pub stage_stays : {S : Type 0} (g : Ghosts S) (stage : Stage S) → IsReady g st
 stage_stays g stage ready = record { ready = ready; set = λ serves is. is; trusted = λ clean. clean }
 
 -- a room that was looked at, whether it has the digest of a head
-pub found : {S : Type 0} (g : Ghosts S) (old new : Store S) (head : Head) (is_changed : Bool)
+pub found : {S : Type 0} (g : Ghosts S) (old new : Store S) (head : StartDigest) (is_changed : Bool)
     (looked : Result Bool ReplayFault)
     → (IsClean g new.conn → IfOk looked (λ is. (terminals : List Terminal) (room : Room)
     → IsRoom g old terminals room → (IsTrue is ↔ IsHeadOf (digits_in old) head terminals room)))
@@ -83,7 +83,7 @@ one_row g old new row was is terminals room done = by_count done.count done.with
   by_count (suc zero) few stands = inr stands
   by_count (suc (suc more)) few stands = absurd (omega (arith, few))
 
-module _ (digits : DigitsOf) (head : Head) (rows : List FleetRow) (terminals : List Terminal)
+module _ (digits : DigitsOf) (head : StartDigest) (rows : List FleetRow) (terminals : List Terminal)
     (room : Room) where
   -- No fewer rows lead to the head's digest, and so many neither where the last of them changed
   -- nothing.

@@ -1,4 +1,4 @@
--- The legs of a list that is replayed, one after another.
+-- The segments of a list that is replayed, one after another.
 use Rattle.std.proofs.Common.{Bool, List, [], Ok, Option, Result, ap, arith, false, inl, inr}
 use Rattle.std.proofs.Common.{length, refl, subst, sym, ℕ, true, Err, IfOk, ◌+◌, ◌<◌, ◌∙◌, ◌∷◌, ◌≡◌}
 use Rattle.std.proofs.Common.{◌⊎◌}
@@ -7,13 +7,13 @@ use Rattle.std.specs.Io.KnownBytes.{prepend_known}
 use Rattle.sqlite.specs.Held.{Held}
 use Rattle.sqlite_trees.specs.declared.store.Store.{Ghosts}
 use Rattle.room_http.specs.Settings.{IsSetting}
-use Rattle.room_model.specs.declared.digests.Head.{Head}
+use Rattle.room_model.specs.declared.digests.StartDigest.{StartDigest}
 use Rattle.room_store.specs.declared.store.Store.{Store}
 use Rattle.dispatch_room_exit.specs.declared.exit_status.Done.{Done}
 use Rattle.dispatch_room_exit.specs.declared.exit_status.Failure.{Failure}
 use Rattle.dispatch_room_cli.specs.declared.tasks.Replay.{Replay as How}
 use Rattle.dispatch_room_journal.specs.declared.list_source.ListSource.{ListSource}
-use Rattle.dispatch_room_journal.specs.Legs.{TakesIn}
+use Rattle.dispatch_room_journal.specs.Segments.{TakesIn}
 use Rattle.dispatch_room_journal.specs.declared.replay_faults.Stopped.{Stopped}
 use Rattle.dispatch_room_journal.specs.declared.replayed_journal.Replayed.{Replayed}
 use Rattle.dispatch_room_journal.specs.declared.row_runs.Behind.{Behind}
@@ -36,7 +36,7 @@ module _ {S : Type 0} (g : Ghosts S) (how : How) (Stands : List ℕ → Behind �
   first_leg first last holds read_failed write_failed came is =
       (record { at = first; earlier = []; are = refl; is = is; before_is = refl }, refl)
 
-  -- nothing failed in a leg that was replayed whole
+  -- nothing failed in a segment that was replayed whole
   any_flags : (at : Waypoint S) (last : Store S) (holds : Option (List ℕ)) (read_failed write_failed : Bool)
       (replayed : Replayed) → IsLeg g how at last holds read_failed write_failed (Ok replayed)
       → IsLeg g how at last holds false false (Ok replayed)
@@ -77,7 +77,7 @@ module _ {S : Type 0} (g : Ghosts S) (how : How) (Stands : List ℕ → Behind �
             record {
               last = stood;
               replayed = replayed;
-              leg = any_flags _ _ _ _ _ _ (rw well at ends.is);
+              segment = any_flags _ _ _ _ _ _ (rw well at ends.is);
               rows = rows;
               behind = behind;
               stands = stands;
@@ -93,17 +93,17 @@ module _ {S : Type 0} (g : Ghosts S) (how : How) (Stands : List ℕ → Behind �
         omega (arith, many),
       )
 
--- what is said less closely of what stands behind the legs
+-- what is said less closely of what stands behind the segments
 module _ {S : Type 0} (g : Ghosts S) (how : How) (Stands : List ℕ → Behind → Option (List ℕ) → Type 0) where
-  any_passed : (legs : List (Waypoint S)) (first now : Waypoint S) → ArePassed g how Stands legs first now
-      → ArePassed g how AnyBehind legs first now
+  any_passed : (segments : List (Waypoint S)) (first now : Waypoint S) → ArePassed g how Stands segments first now
+      → ArePassed g how AnyBehind segments first now
   any_passed [] first now are = are
   any_passed (at ∷ earlier) first now are = (
     any_passed earlier first at are.0,
     record {
       last = are.1.last;
       replayed = are.1.replayed;
-      leg = are.1.leg;
+      segment = are.1.segment;
       rows = are.1.rows;
       behind = are.1.behind;
       stands = tt;
@@ -146,7 +146,7 @@ module _ {S : Type 0} (g : Ghosts S) (how : How) (Stands : List ℕ → Behind �
         stood = is.stood;
         before = is.before;
         replayed = is.replayed;
-        leg = any_ends _ _ _ _ _ _ _ is.leg;
+        segment = any_ends _ _ _ _ _ _ _ is.segment;
         clean = is.clean;
         fault = is.fault;
         why = elim is.why [
@@ -165,7 +165,7 @@ module _ {S : Type 0} (g : Ghosts S) (how : How) (Stands : List ℕ → Behind �
     stood = is.stood;
     before = is.before;
     replayed = is.replayed;
-    leg = any_ends _ _ _ _ _ _ _ is.leg;
+    segment = any_ends _ _ _ _ _ _ _ is.segment;
     rows = is.rows;
     head = is.head;
     next = is.next;
@@ -219,12 +219,12 @@ module _ {S : Type 0} (g : Ghosts S) (how : How) (Stands : List ℕ → Behind �
     };
   }
 
--- as many legs were replayed as are counted
+-- as many segments were replayed as are counted
 pub so_many : {T E : Type 0} (came : Result T E) (P Q : Type 0) → Q → IfOk came (λ it. P ⊎ Q)
 so_many (Ok it) P Q many = inr many
 so_many (Err e) P Q many = tt
 
--- what stands behind a leg, by what a call says that took it
+-- what stands behind a segment, by what a call says that took it
 pub takes_behind : {R : Type 0} (left : R → Option (List ℕ)) (old new : ListSource R) (before rows : List ℕ)
     (taken : Result Behind RowsFault)
     → (old.has_ended ≡ false → (taken ≡ Ok behind.Unread) × IsUntouched old new × (rows ≡ before))
@@ -242,12 +242,12 @@ takes_behind left old new before rows (Err fault) unread given takes = tt
 
 -- what becomes of rows, where there are any, by what stands behind them
 module _ {S : Type 0} (g : Ghosts S) (old new : Store S) where
-  pub follows_by : (change : RoomChange) (text : List ℕ) (head : Head) → IsTextOf change text
+  pub follows_by : (change : RoomChange) (text : List ℕ) (head : StartDigest) → IsTextOf change text
       → IsThere g old new head ⊎ IsMadeTowards g old new change head → Follows g old new text head
   follows_by change text head its (inl there) = inl there
   follows_by change text head its (inr made) = inr (inr (change, its, made))
 
-  pub due_by : (rows : List ℕ) (head : Head) → (rows ≡ [] → ⊥) → Follows g old new rows head
+  pub due_by : (rows : List ℕ) (head : StartDigest) → (rows ≡ [] → ⊥) → Follows g old new rows head
       → FollowsBy g old new rows (behind.Room head) true
   due_by [] head some due = absurd (some refl)
   due_by (byte ∷ more) head some due = (refl, due)
@@ -271,7 +271,7 @@ module _ {S : Type 0} (g : Ghosts S) (old new : Store S) where
   stays_by (byte ∷ more) (behind.Room head) is = absurd (cc is.0)
   stays_by (byte ∷ more) behind.Other is = absurd (cc is.0)
 
--- the last leg is the last where the room stays as it is
+-- the last segment is the last where the room stays as it is
 pub ends_here : {S : Type 0} (g : Ghosts S) (how : How) (Stands : List ℕ → Behind → Option (List ℕ) → Type 0)
     (first : Waypoint S) (old new : Store S)
     (holds : Option (List ℕ)) (read_failed write_failed reads writes : Bool) (before : ℕ) (replayed : Replayed)
@@ -284,7 +284,7 @@ ends_here g how Stands first old new holds _ _ reads writes before replayed rows
     (sym (stays_by g old new rows behind by))
     (whole_leg g how Stands first old holds _ _ reads writes before replayed ends)
 
--- a list is spent where no leg follows what was taken behind the last one
+-- a list is spent where no segment follows what was taken behind the last one
 pub spent_by : (Stands : List ℕ → Behind → Option (List ℕ) → Type 0) {S : Type 0} (g : Ghosts S) (was is : Store S)
     (rows : List ℕ) (which : Behind) (next : Option (List ℕ)) → Stands rows which next
     → FollowsBy g was is rows which false → IsSpent Stands

@@ -6,7 +6,7 @@ pub mod RoomChanges
 pub mod ListedRows
 -- the digest of a room that is printed
 pub mod RoomDigests
--- a list that is replayed leg by leg
+-- a list that is replayed segment by segment
 pub mod ReplayedLegs
 -- what a replay ends with
 pub mod ReplayEnds

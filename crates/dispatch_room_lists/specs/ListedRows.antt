@@ -7,7 +7,7 @@ use Rattle.room_types.specs.declared.fleet.FleetRow.{FleetRow}
 use Rattle.room_types.specs.declared.fleet.Terminal.{Terminal}
 use Rattle.room_model.specs.Digests.{DigitsOf, IsHeadOf}
 use Rattle.room_model.specs.Room.{Room}
-use Rattle.room_model.specs.declared.digests.Head.{Head}
+use Rattle.room_model.specs.declared.digests.StartDigest.{StartDigest}
 use Rattle.room_store.specs.FleetEnrolment.{room_after_rows, terminals_after_rows}
 use Rattle.room_store.specs.StoredRoom.{IsRoom}
 use Rattle.room_store.specs.declared.store.Store.{Store}
@@ -57,7 +57,7 @@ pub record IsNoFile (text : List ℕ) : Type 0 where
   pub no_change : IsNoChange text
 
 -- ---- a fleet's rows
-module _ (digits : DigitsOf) (head : Head) (rows : List FleetRow) (terminals : List Terminal)
+module _ (digits : DigitsOf) (head : StartDigest) (rows : List FleetRow) (terminals : List Terminal)
     (room : Room) where
   -- after the first rows, this many, the room has the head's digest
   abbrev pub IsMetAfter : ℕ → Type 0
@@ -82,31 +82,31 @@ module _ {S : Type 0} (g : Ghosts S) (old new : Store S) where
       (room_after_rows (take count rows) room terminals)
 
   -- it has them after as many rows as are due
-  abbrev pub EnrolsDue : List FleetRow → Head → Type 0
+  abbrev pub EnrolsDue : List FleetRow → StartDigest → Type 0
   EnrolsDue rows head = IsClean g new.conn → (terminals : List Terminal) (room : Room)
       → IsRoom g old terminals room
       → (count : ℕ) × IsDue (digits_in old) head rows terminals room count
       × HasFirstRows rows terminals room count
 
   -- after some of them, no more than are due
-  abbrev pub EnrolsSome : List FleetRow → Head → Type 0
+  abbrev pub EnrolsSome : List FleetRow → StartDigest → Type 0
   EnrolsSome rows head = IsClean g new.conn → (terminals : List Terminal) (room : Room)
       → IsRoom g old terminals room
       → (count : ℕ) × IsNoMore (digits_in old) head rows terminals room count
       × HasFirstRows rows terminals room count
 
   -- the same of the rows in a text
-  abbrev pub EnrolsDueIn : List ℕ → Head → Type 0
+  abbrev pub EnrolsDueIn : List ℕ → StartDigest → Type 0
   EnrolsDueIn text head = (rows : List FleetRow) × AreRowsIn text rows × EnrolsDue rows head
 
-  abbrev pub EnrolsSomeIn : List ℕ → Head → Type 0
+  abbrev pub EnrolsSomeIn : List ℕ → StartDigest → Type 0
   EnrolsSomeIn text head = (rows : List FleetRow) × AreRowsIn text rows × EnrolsSome rows head
 
 -- ---- whether the room is the head's
 module _ {S : Type 0} (g : Ghosts S) (old new : Store S) where
   -- The room is found to have the digest of the head, or not to have it. One that has not changed
   -- since it had another digest does not have it, and isn't looked at.
-  pub record FindsHead (head : Head) (is_changed is : Bool) : Type 0 where
+  pub record FindsHead (head : StartDigest) (is_changed is : Bool) : Type 0 where
     pub met : IsClean g new.conn → is ≡ true → (terminals : List Terminal)
         (room : Room) → IsRoom g old terminals room → IsHeadOf (digits_in old) head terminals room
     pub unmet : IsClean g new.conn → is ≡ false → is_changed ≡ true
@@ -115,13 +115,13 @@ module _ {S : Type 0} (g : Ghosts S) (old new : Store S) where
 
   -- The room has the digest of the head, and stays as it is: a change before it was not made, or it
   -- changed nothing; or a stop left only some rows of a change, which was not made then.
-  pub record IsThere (head : Head) : Type 0 where
+  pub record IsThere (head : StartDigest) : Type 0 where
     pub stays : Stays g old new
     pub met : IsClean g new.conn → (terminals : List Terminal) (room : Room)
         → IsRoom g old terminals room → IsHeadOf (digits_in old) head terminals room
 
   -- the room has another digest than the head's, and stays as it is
-  pub record IsElsewhere (head : Head) : Type 0 where
+  pub record IsElsewhere (head : StartDigest) : Type 0 where
     pub stays : Stays g old new
     pub unmet : IsClean g new.conn → (terminals : List Terminal) (room : Room)
         → IsRoom g old terminals room → ¬ IsHeadOf (digits_in old) head terminals room
@@ -138,7 +138,7 @@ unmade_fault failure.Memory = Unavailable refusal.Memory
 unmade_fault failure.Storage = Unavailable refusal.Storage
 unmade_fault other = OtherRoom
 
-module _ {S : Type 0} (g : Ghosts S) (old new : Store S) (change : RoomChange) (head : Head) where
+module _ {S : Type 0} (g : Ghosts S) (old new : Store S) (change : RoomChange) (head : StartDigest) where
   -- The room has another digest, and the change is made.
   pub record IsMadeTowards : Type 0 where
     pub begun : Store S
@@ -155,18 +155,18 @@ module _ {S : Type 0} (g : Ghosts S) (old new : Store S) (change : RoomChange) (
 
 -- The room has another digest, and can't be opened again, before the change or after it, for this.
 pub record LosesStage {S : Type 0} (g : Ghosts S) (old : Store S) (change : RoomChange)
-    (head : Head) (fault : Failure) : Type 0 where
+    (head : StartDigest) (fault : Failure) : Type 0 where
   pub begun : Store S
   pub elsewhere : IsElsewhere g old begun head
   pub loses : LosesRoom g begun change fault
 
 -- the same of the change of a text
-abbrev pub LosesText : {S : Type 0} → Ghosts S → Store S → List ℕ → Head → Failure → Type 0
+abbrev pub LosesText : {S : Type 0} → Ghosts S → Store S → List ℕ → StartDigest → Failure → Type 0
 LosesText g old text head fault =
     (change : RoomChange) × IsTextOf change text × LosesStage g old change head fault
 
 -- ---- what is done
-module _ {S : Type 0} (g : Ghosts S) (old new : Store S) (text : List ℕ) (head : Head) where
+module _ {S : Type 0} (g : Ghosts S) (old new : Store S) (text : List ℕ) (head : StartDigest) where
   -- what the rows of a text say is done, as far as the head behind them says
   abbrev pub Follows : Type 0
   Follows = IsThere g old new head ⊎ EnrolsDueIn g old new text head

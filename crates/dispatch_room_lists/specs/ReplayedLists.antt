@@ -54,12 +54,12 @@ EndsAs (Ok messages) done = done ≡ Ok Whole
 EndsAs (Err stopped) done = done ≡ Err (failure_of stopped)
 
 -- What is done with a list in a room: `first` is its store before and `last` after, and `setting`
--- is that in which the first leg is answered.
+-- is that in which the first segment is answered.
 module _ {S : Type 0} (g : Ghosts S) (how : How) (first : Store S) (setting : HttpSettings)
     (last : Store S) (list before after : Option (List ℕ)) (read_failed : Bool)
     (Stands : List ℕ → Behind → Option (List ℕ) → Type 0)
     (done : Result Done Failure) where
-  -- it is replayed leg by leg, and how much it was is reported
+  -- it is replayed segment by segment, and how much it was is reported
   pub record IsReplayed : Type 0 where
     pub write_failed : Bool
     pub result : Result Replayed Stopped
@@ -67,7 +67,7 @@ module _ {S : Type 0} (g : Ghosts S) (how : How) (first : Store S) (setting : Ht
         write_failed result
     pub printed : PrintsReplayed result before after done
 
-  -- each of its messages is answered, leg by leg, and the answers are written
+  -- each of its messages is answered, segment by segment, and the answers are written
   pub record AreAnswered : Type 0 where
     pub write_failed : Bool
     pub result : Result Replayed Stopped
@@ -110,7 +110,7 @@ pub record HasReplayedList {S : Type 0} (g : Ghosts S) (old new : Held S) (how :
   pub ends : Concludes g last ended how came has_ended between after done
   pub closed : new ≡ ended.conn
 
--- Behind a leg of a list no room could be opened again, for this. If answers are asked for, those
+-- Behind a segment of a list no room could be opened again, for this. If answers are asked for, those
 -- so far are written behind what the output held; otherwise nothing is printed.
 pub record LosesPlayed {S : Type 0} (g : Ghosts S) (how : How) (first : Store S) (setting : HttpSettings)
     (list before after : Option (List ℕ))
@@ -120,7 +120,7 @@ pub record LosesPlayed {S : Type 0} (g : Ghosts S) (how : How) (first : Store S)
   pub answered : how.answers ≡ true
       → LosesLeg g how Stands (begins_leg first setting list before) after fault
 
--- a room was opened, but behind a leg of a list it could not be opened again
+-- a room was opened, but behind a segment of a list it could not be opened again
 pub record LosesList {S : Type 0} (g : Ghosts S) (old : Held S) (how : How)
     (list before after : Option (List ℕ))
     (Stands : List ℕ → Behind → Option (List ℕ) → Type 0) (fault : Failure) : Type 0 where

@@ -18,7 +18,7 @@ use dispatch_room_exit::exit_status::Failure;
 use dispatch_room_exit::failure_causes::Explainer;
 use dispatch_room_journal::replay_faults::ReplayFault;
 use room_http::settings::HttpSettings;
-use room_model::digests::Head;
+use room_model::digests::StartDigest;
 use room_store::store::Store;
 use room_types::fleet::FleetRow;
 use room_types::refusal_statuses::Refusal;
@@ -46,7 +46,7 @@ pub fn follow<S: Alter + Drop>(
     explainer: Explainer<'_>,
     stage: Stage<S>,
     text: &[u8],
-    head: &Head,
+    head: &StartDigest,
 ) -> Followed<(), S>
     requires ready { IsReady S.Store stage.room }
     ensures goes { IfOk result (λ it. StageGoesOn S.Store stage it.1) }
@@ -71,7 +71,7 @@ fn enrol<S: Alter>(
     alloc: Global,
     stage: Stage<S>,
     rows: &[FleetRow],
-    head: &Head,
+    head: &StartDigest,
 ) -> (Result<(), ReplayFault>, Stage<S>)
     requires ready { IsReady S.Store stage.room }
     ensures goes { GoesOn S.Store stage.room result.1.room }
@@ -88,7 +88,7 @@ fn enrol<S: Alter>(
 }
 
 // Changes nothing. If the room doesn't have the digest of the head, the list is bad.
-fn stay<S: Alter>(stage: Stage<S>, head: &Head) -> (Result<(), ReplayFault>, Stage<S>)
+fn stay<S: Alter>(stage: Stage<S>, head: &StartDigest) -> (Result<(), ReplayFault>, Stage<S>)
     requires ready { IsReady S.Store stage.room }
     ensures goes { GoesOn S.Store stage.room result.1.room }
     ensures setting { result.1.setting ≡ stage.setting }
@@ -112,7 +112,7 @@ fn make_towards<S: Alter + Drop>(
     explainer: Explainer<'_>,
     stage: Stage<S>,
     change: &RoomChange,
-    head: &Head,
+    head: &StartDigest,
 ) -> Followed<(), S>
     requires ready { IsReady S.Store stage.room }
     ensures goes { IfOk result (λ it. StageGoesOn S.Store stage it.1) }

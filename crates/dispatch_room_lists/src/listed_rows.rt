@@ -12,7 +12,7 @@ ghost use Rattle.room_tables_schema.specs.FileConnections.{IsClean};
 
 use dispatch_room_journal::played_message::is_at;
 use dispatch_room_journal::replay_faults::ReplayFault;
-use room_model::digests::Head;
+use room_model::digests::StartDigest;
 use room_store::store::Store;
 use room_types::fleet::{FleetRow, RowFate};
 use room_types::refusal_statuses::Refusal;
@@ -27,7 +27,7 @@ pub fn enrol_rows<S: Alter>(
     alloc: Global,
     room: &mut Store<S>,
     rows: &[FleetRow],
-    head: &Head,
+    head: &StartDigest,
 ) -> Result<(), ReplayFault>
     requires ready { IsReady S.Store room.old }
     ensures goes { GoesOn S.Store room.old room.new }
@@ -54,7 +54,7 @@ pub fn enrol_rows<S: Alter>(
 /// (`is_changed`) since it had another digest.
 pub fn has_come_to<S: Alter>(
     room: &mut Store<S>,
-    head: &Head,
+    head: &StartDigest,
     is_changed: bool,
 ) -> Result<bool, ReplayFault>
     requires ready { IsReady S.Store room.old }

@@ -5,7 +5,7 @@ ghost use Rattle.room_http.specs.Settings.{IsSetting};
 ghost use Rattle.room_store.specs.StoredRoom.{IsReady};
 ghost use Rattle.dispatch_room_journal.specs.Chains.{sha256_digits};
 ghost use Rattle.dispatch_room_journal.specs.RecordFronts.{list_says};
-ghost use Rattle.dispatch_room_journal.specs.declared.read_progress.Reach.TheVariants.{Leg};
+ghost use Rattle.dispatch_room_journal.specs.declared.read_progress.Reach.TheVariants.{Segment};
 ghost use Rattle.dispatch_room_tasks.specs.OpenedRoom.{IsUnopened};
 ghost use Rattle.dispatch_room_lists.specs.ReplayedLegs.{StandsBehind, count_in};
 ghost use Rattle.dispatch_room_lists.specs.ReplayedLists.{EndsAs, HasReplayed, HasReplayedList};
@@ -14,9 +14,9 @@ ghost use Rattle.dispatch_room_lists.specs.ReplayedLists.{LosesReplayed, PrintsR
 ghost use Rattle.dispatch_room_lists.specs.ReplayedLists.{failure_of};
 
 use crate::followed_rows::Stage;
-use crate::leg_readers::{LegReader, Legs};
 use crate::replay_ends::conclude;
-use crate::replayed_legs::{Course, Played, replay_legs};
+use crate::replayed_segments::{Played, ReplayCourse, replay_legs};
+use crate::segment_readers::{SegmentReader, Segments};
 use dispatch_room_exit::exit_status::{Done, Failure, refused};
 use dispatch_room_journal::answer_writers::AnswerWriter;
 use dispatch_room_journal::replay_faults::{ReplayFault, Stopped};
@@ -32,7 +32,7 @@ use std::io::{self, Write};
 /// were, and the room's digest if `replay.digest` asks for it; or writes the answer to each message
 /// as soon as it is given.
 pub fn replay_from<S: Alter + Drop, R: Source + Drop, O: Write, E: Write>(
-    course: &Course<'_>,
+    course: &ReplayCourse<'_>,
     conn: Connection<S>,
     reader: R,
     out: &mut O,
@@ -42,23 +42,23 @@ pub fn replay_from<S: Alter + Drop, R: Source + Drop, O: Write, E: Write>(
     requires reads { R.has_failed reader ≡ false }
     requires unread { R.has_ended reader ≡ false }
     ensures replayed { IfOk result (λ worked. HasReplayed S.Store conn worked.1
-        course.now.replay.now (option_map (list_says sha256_digits Leg) (R.left reader))
+        course.now.replay.now (option_map (list_says sha256_digits Segment) (R.left reader))
         (O.contents out.old) (O.contents out.new) worked.0) }
     ensures lost { IfErr result (λ fault. (IsUnopened S.Store conn fault
         × (O.contents out.new ≡ O.contents out.old))
         ⊎ LosesReplayed S.Store conn course.now.replay.now
-        (option_map (list_says sha256_digits Leg) (R.left reader)) (O.contents out.old)
+        (option_map (list_says sha256_digits Segment) (R.left reader)) (O.contents out.old)
         (O.contents out.new) fault) }
 {
-    let mut list = LegReader::new(reader);
+    let mut list = SegmentReader::new(reader);
     replay_list(course, conn, &mut list, out, err)
 }
 
-/// Replays what is left of a list to the room of a database. Each leg is read to its end, unless
+/// Replays what is left of a list to the room of a database. Each segment is read to its end, unless
 /// the list is replayed up to a moment, or the replay fails. A record that is cut off may be left
 /// out only if the end of the list was found.
-pub fn replay_list<S: Alter + Drop, L: Legs, O: Write, E: Write>(
-    course: &Course<'_>,
+pub fn replay_list<S: Alter + Drop, L: Segments, O: Write, E: Write>(
+    course: &ReplayCourse<'_>,
     conn: Connection<S>,
     list: &mut L,
     out: &mut O,
@@ -92,8 +92,8 @@ pub fn replay_list<S: Alter + Drop, L: Legs, O: Write, E: Write>(
 
 // Replays a list in a room, and prints how many messages that were, or answers each message. The
 // room is given back.
-fn replay_in<L: Legs, S: Alter + Drop, O: Write, E: Write>(
-    course: &Course<'_>,
+fn replay_in<L: Segments, S: Alter + Drop, O: Write, E: Write>(
+    course: &ReplayCourse<'_>,
     list: &mut L,
     stage: Stage<S>,
     out: &mut O,

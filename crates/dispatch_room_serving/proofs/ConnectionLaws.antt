@@ -18,7 +18,7 @@ use Rattle.room_store.specs.declared.store.Store.{Store}
 use Rattle.room_store_writes.specs.Configurations.{config_of}
 use Rattle.room_tables.specs.RoomsInTables.{Stands}
 use Rattle.room_http.specs.Runs.{Exchange, IsRun, room_by}
-use Rattle.room_http.specs.Course.{AreFirstIn}
+use Rattle.room_http.specs.ServedTrace.{AreFirstIn}
 use Rattle.room_http.specs.ServedRuns.{KeepsPromises, Served}
 use Rattle.room_http.specs.declared.session.ServeEnd.{ServeEnd}
 use Rattle.room_http.specs.declared.session.ServeEnd.TheVariants as end

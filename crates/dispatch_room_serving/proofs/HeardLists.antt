@@ -27,7 +27,7 @@ use Rattle.room_types.specs.declared.numbers.TheConstants.{LAST_MOMENT}
 use Rattle.room_http.specs.Settings.{IsSetting}
 use Rattle.room_http.specs.declared.settings.HttpSettings.{HttpSettings}
 use Rattle.room_http.specs.Arrivals.{message as arrived, refused}
-use Rattle.room_http.specs.Course.{AreFirstIn}
+use Rattle.room_http.specs.ServedTrace.{AreFirstIn}
 use Rattle.room_http.specs.KeptMessages.{AreKept as AreRecords, AreReplies, IsCome}
 use Rattle.room_http.specs.Runs.{AreAnswered, Exchange, arrivals_of, events_of, room_by}
 use Rattle.room_http.specs.ServedRuns.{Served}

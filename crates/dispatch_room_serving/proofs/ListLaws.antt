@@ -12,7 +12,7 @@ use Rattle.room_types.specs.declared.fleet.Terminal.{Terminal}
 use Rattle.room_model.specs.Room.{Room}
 use Rattle.room_model.specs.Digests.{IsHeadOf, digits_of}
 use Rattle.room_model.specs.Rooms.{machine}
-use Rattle.room_model.specs.declared.digests.Head.{Head}
+use Rattle.room_model.specs.declared.digests.StartDigest.{StartDigest}
 use Rattle.room_model.specs.declared.digests.Version.{Version}
 use Rattle.room_model.specs.declared.digests.Version.TheVariants.{Second}
 use Rattle.room_http_time.specs.Days.{zone_of}
@@ -128,7 +128,7 @@ module _ {S : Type 0} (g : Ghosts S) (setting : HttpSettings) (text : List ℕ)
           held from now entries rest end_is (follows.0, same ∙ follows.1) come)
 
       module _ (response : List ℕ) (first_head : IsHead g true room_text s.opened s.first.stage.store response) where
-        abbrev h : Head
+        abbrev h : StartDigest
         h = first_head.head
 
         states : IsDigestOf g s.opened s.first.stage.store h

@@ -11,11 +11,11 @@ use Rattle.sqlite_trees.specs.declared.store.Store.{Ghosts}
 use Rattle.room_types.specs.declared.fleet.Terminal.{Terminal}
 use Rattle.room_model.specs.Room.{Room}
 use Rattle.room_model.specs.Rooms.{machine}
-use Rattle.room_model.specs.declared.digests.Head.{Head}
+use Rattle.room_model.specs.declared.digests.StartDigest.{StartDigest}
 use Rattle.room_http_time.specs.Days.{zone_of}
 use Rattle.room_types.specs.declared.numbers.TheConstants.{LAST_MOMENT}
 use Rattle.room_http.specs.declared.settings.HttpSettings.{HttpSettings}
-use Rattle.room_http.specs.Course.{AreFirstIn, AreOf, Course}
+use Rattle.room_http.specs.ServedTrace.{AreFirstIn, AreOf, ServedTrace}
 use Rattle.room_http.specs.Runs.{AreAnswered, Exchange, IsRun, arrivals_of, room_by}
 use Rattle.room_http.specs.Session.{Finish, ServeIs, Sides}
 use Rattle.room_http.specs.Dialogues.{LeavesNext, Timed, replied}
@@ -51,7 +51,7 @@ abbrev InTime : Timed → Type 0
 InTime x = x.1 ≤ LAST_MOMENT
 
 -- of all that had a moment none was later than the last of the room
-module _ (course : Course) where
+module _ (course : ServedTrace) where
   whole_timed : course.last ≡ None → All InTime course.outs → (outs : List Timed) → AreOf course outs
       → All InTime outs
   whole_timed none timed outs (inl is) = All-same InTime outs course.outs is timed
@@ -488,7 +488,7 @@ module _ {S : Type 0} where
       (subst GoOnBefore (sym (connected_more before (Some last ∷ []))) (before_go (connected before) last go))
 
 -- a start that serving gives, and what was kept of its head
-pub record IsServedStart {S : Type 0} (g : Ghosts S) (wants : Bool) (begun_text : Head → List ℕ)
+pub record IsServedStart {S : Type 0} (g : Ghosts S) (wants : Bool) (begun_text : StartDigest → List ℕ)
     (came_text : ℕ → List ℕ → List ℕ) (response_text : List ℕ → List ℕ) (history : Bool) (found : Held S)
     (old new : Store S → Service S) (worked : Result Done Failure × Held S) (s : Start S) : Type 0 where
   pub start : IsStart g came_text response_text s
@@ -503,7 +503,7 @@ pub record IsServedStart {S : Type 0} (g : Ghosts S) (wants : Bool) (begun_text 
       × KeepsHead g wants begun_text s.opened s.first.stage.store (old s.opened).stage.kept s.first.stage.kept
       (Err fault))
 
-pub served_start : {S : Type 0} (g : Ghosts S) (wants : Bool) (begun_text : Head → List ℕ)
+pub served_start : {S : Type 0} (g : Ghosts S) (wants : Bool) (begun_text : StartDigest → List ℕ)
     (came_text : ℕ → List ℕ → List ℕ) (response_text : List ℕ → List ℕ) (history : Bool) (found : Held S)
     (old new : Store S → Service S) (renews : Bool) (most : ℕ)
     (worked : Result Done Failure × Held S)

@@ -10,7 +10,7 @@ use Rattle.room_model.specs.Rooms.{machine}
 use Rattle.room_store.specs.StoredRoom.{IsKept, IsRoom, LeavesOneOf}
 use Rattle.room_store.specs.declared.store.Store.{Store}
 use Rattle.room_store_cache.specs.Cache.{KnowsNothing}
-use Rattle.room_http.specs.Course.{AreFirstIn, Course}
+use Rattle.room_http.specs.ServedTrace.{AreFirstIn, ServedTrace}
 use Rattle.room_http.specs.KeptMessages.{ActsOnEach, KeepsEach, Tapes}
 use Rattle.room_http.specs.Promises.{Promises}
 use Rattle.room_http.specs.Runs.{Exchange, IsRun, room_by}
@@ -46,7 +46,7 @@ pub record Stage (S : Type 0) : Type 0 where
 pub record Conversation (S : Type 0) : Type 0 where
   pub before : Sides
   pub after : Finish
-  pub course : Course
+  pub course : ServedTrace
   pub unread : Option (List ℕ)
   pub end : ServeEnd
   pub from : Store S

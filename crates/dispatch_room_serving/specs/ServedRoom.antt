@@ -10,7 +10,7 @@ use Rattle.room_http.specs.Dialogues.{IsFront}
 use Rattle.room_http.specs.Settings.{IsSetting}
 use Rattle.room_http.specs.declared.settings.HttpSettings.{HttpSettings}
 use Rattle.room_model.specs.Digests.{IsHeadOf, digits_of}
-use Rattle.room_model.specs.declared.digests.Head.{Head}
+use Rattle.room_model.specs.declared.digests.StartDigest.{StartDigest}
 use Rattle.room_model.specs.declared.digests.Version.TheVariants.{Second}
 use Rattle.room_store.specs.StoredRoom.{IsKept, IsRoom, LeavesOneOf}
 use Rattle.room_store.specs.declared.store.Store.{Store}
@@ -51,17 +51,17 @@ module _ {S : Type 0} (g : Ghosts S) where
     pub kept : IsClean g new.conn → IsKept g old → IsKept g new
 
   -- the head gives the digest of all rows of the room that a store stood for
-  abbrev pub IsDigestOf : Store S → Store S → Head → Type 0
+  abbrev pub IsDigestOf : Store S → Store S → StartDigest → Type 0
   IsDigestOf old new head = (head.version ≡ Second)
       × (IsClean g new.conn → (terminals : List Terminal) (room : Room)
       → IsRoom g old terminals room
       → IsHeadOf (digits_of digest_of old.plan.zone) head terminals room)
 
   -- where an observer wants the digest of the room's rows, or doesn't, and what it keeps of it
-  module _ (wants : Bool) (begun_text : Head → List ℕ) where
+  module _ (wants : Bool) (begun_text : StartDigest → List ℕ) where
     -- what it keeps where serving begins: where it doesn't want the digest, nothing
     pub record IsHead (old new : Store S) (text : List ℕ) : Type 0 where
-      pub head : Head
+      pub head : StartDigest
       pub known : wants ≡ true → IsDigestOf old new head
       pub text_is : text ≡ if wants then begun_text head else []
 

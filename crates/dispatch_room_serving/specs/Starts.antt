@@ -7,8 +7,8 @@ use Rattle.sqlite.specs.State.{HasCleanDisk}
 use Rattle.sqlite_trees.specs.declared.store.Store.{Ghosts}
 use Rattle.room_types.specs.declared.fleet.Terminal.{Terminal}
 use Rattle.room_model.specs.Room.{Room}
-use Rattle.room_model.specs.declared.digests.Head.{Head}
-use Rattle.room_http.specs.Course.{AreFirstIn}
+use Rattle.room_model.specs.declared.digests.StartDigest.{StartDigest}
+use Rattle.room_http.specs.ServedTrace.{AreFirstIn}
 use Rattle.room_http.specs.Promises.{Promises}
 use Rattle.room_http.specs.Runs.{Exchange, IsRun, arrivals_of, room_by}
 use Rattle.room_http_time.specs.Days.{zone_of}
@@ -140,7 +140,7 @@ module _ {S : Type 0} (g : Ghosts S) where
   -- closed.
   abbrev pub ServedIsAStart : Type 0
   ServedIsAStart =
-      (wants : Bool) (begun_text : Head → List ℕ) (came_text : ℕ → List ℕ → List ℕ)
+      (wants : Bool) (begun_text : StartDigest → List ℕ) (came_text : ℕ → List ℕ → List ℕ)
       (response_text : List ℕ → List ℕ) (history : Bool) (found : Held S)
       (old new : Store S → Service S) (renews : Bool) (most : ℕ)
       (worked : Result Done Failure × Held S)

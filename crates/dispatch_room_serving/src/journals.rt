@@ -15,7 +15,7 @@ use dispatch_room_journal::answer_statuses::status_of;
 use dispatch_room_journal::entry_texts::EntryText;
 use room_http::arrivals::Arrived;
 use room_http::observers::{Asked, JournalFailed, Observer};
-use room_model::digests::Head;
+use room_model::digests::StartDigest;
 use room_types::numbers::Moment;
 
 /// Where the entries of a journal are kept.
@@ -102,7 +102,7 @@ impl<W: Keeper> Journal<W> {
     }
 
     /// Records that a part begins, at a room whose rows have this digest.
-    pub fn begin(&mut self, head: &Head) -> Result<(), JournalFailed>
+    pub fn begin(&mut self, head: &StartDigest) -> Result<(), JournalFailed>
         requires { IsDigest head.now.digits }
         ensures kept { KeepsAll (W.held self.old.out) (W.held self.new.out) (room_text head.now)
             result }
@@ -228,7 +228,11 @@ fn asks_only(method: &[u8]) -> bool
 }
 
 // Keeps the head with which a part begins, and makes it last if `is_synced`.
-fn keep_room<W: Keeper>(out: &mut W, is_synced: bool, head: &Head) -> Result<(), JournalFailed>
+fn keep_room<W: Keeper>(
+    out: &mut W,
+    is_synced: bool,
+    head: &StartDigest,
+) -> Result<(), JournalFailed>
     requires { IsDigest head.now.digits }
     ensures kept { KeepsAll (W.held out.old) (W.held out.new) (room_text head.now) result }
     ensures put { OnOk result (W.puts out.old out.new (room_text head.now)) }

@@ -15,7 +15,7 @@ use crate::logs::Log;
 use dispatch_room_exit::exit_status::{Done, Failure};
 use room_http::arrivals::Arrived;
 use room_http::observers::{Asked, JournalFailed, Observer};
-use room_model::digests::Head;
+use room_model::digests::StartDigest;
 use room_types::numbers::Moment;
 use std::io::Write;
 use std::time::Clock;
@@ -130,7 +130,7 @@ impl<'a, E: Write, T: Clock, W: Keeper> JournalObserver for LogAndJournal<'a, E,
     }
 
     // Beside what all observers ensure: the head is put in the journal, and nothing else.
-    fn begins(&mut self, head: &Head) -> Result<(), JournalFailed>
+    fn begins(&mut self, head: &StartDigest) -> Result<(), JournalFailed>
         requires { IsDigest head.now.digits }
         ensures kept { KeepsAll (held_by W.held self.old.journal) (held_by W.held self.new.journal)
             (room_text head.now) result }

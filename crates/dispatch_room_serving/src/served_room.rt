@@ -17,7 +17,7 @@ use dispatch_room_tasks::opened_room::{TaskResult, open_room};
 use room_http::clocks::Clock;
 use room_http::handlers::Handler;
 use room_http::settings::HttpSettings;
-use room_model::digests::{Head, Version};
+use room_model::digests::{StartDigest, Version};
 use room_store::store::Store;
 use room_store::store_digest::digest_of_room;
 use sqlite::{Alter, Connection};
@@ -171,7 +171,7 @@ fn announce<S: Alter, N: JournalObserver>(
     }
     match digest_of_room(room, Version::Second) {
         Ok(digest) => {
-            let head = Head {
+            let head = StartDigest {
                 version: Version::Second,
                 digits: digest_of(&digest),
             };

@@ -5,18 +5,18 @@ use Rattle.std.proofs.Common.{refl, if◌then◌else◌}
 use Rattle.std.proofs.lemmas.List.Elements.{All-nil, All-push}
 use Rattle.std.specs.Duration.{as_nanos}
 use Rattle.std.specs.declared.time.Duration.{Duration}
-use Rattle.dispatch_room_sockets.specs.declared.leavers.Leaver.{Leaver}
+use Rattle.dispatch_room_sockets.specs.declared.closing_connections.ClosingConnection.{ClosingConnection}
 use Rattle.dispatch_room_sockets.specs.Departures.{is_resting}
 
 module _ {C : Type 0} where
-  abbrev pub InTime : Duration → Leaver C → Type 0
+  abbrev pub InTime : Duration → ClosingConnection C → Type 0
   InTime now l = as_nanos now < as_nanos l.until
 
-  abbrev resting : Duration → List (Leaver C) → List (Leaver C)
-  resting now leavers = filter (is_resting now) leavers
+  abbrev resting : Duration → List (ClosingConnection C) → List (ClosingConnection C)
+  resting now closing_connections = filter (is_resting now) closing_connections
 
-  resting_push : (now : Duration) (leavers : List (Leaver C)) (l : Leaver C)
-      → resting now (leavers ++ l ∷ []) ≡ resting now leavers ++ resting now (l ∷ [])
+  resting_push : (now : Duration) (closing_connections : List (ClosingConnection C)) (l : ClosingConnection C)
+      → resting now (closing_connections ++ l ∷ []) ≡ resting now closing_connections ++ resting now (l ∷ [])
   resting_push now [] l = refl
   resting_push now (k ∷ more) l = go (is_resting now k) (resting_push now more l)
     where
@@ -28,36 +28,36 @@ module _ {C : Type 0} where
 
   -- All but the first of them, so many, are in their time. These others are those of the first who
   -- were seen and stayed, and among them all who rested.
-  pub record AreInTime (now : Duration) (rest : ℕ) (old leavers : List (Leaver C)) : Type 0 where
-    pub unseen : List (Leaver C)
-    pub seen : List (Leaver C)
-    pub before : List (Leaver C)
-    pub are : leavers ≡ unseen ++ seen
+  pub record AreInTime (now : Duration) (rest : ℕ) (old closing_connections : List (ClosingConnection C)) : Type 0 where
+    pub unseen : List (ClosingConnection C)
+    pub seen : List (ClosingConnection C)
+    pub before : List (ClosingConnection C)
+    pub are : closing_connections ≡ unseen ++ seen
     pub were : old ≡ before ++ unseen
     pub count : length unseen ≡ rest
     pub in_time : All (InTime now) seen
     pub rested : resting now seen ≡ resting now before
 
-  pub none_yet : (now : Duration) (rest : ℕ) (leavers : List (Leaver C)) → rest ≡ length leavers
-      → AreInTime now rest leavers leavers
-  none_yet now rest leavers all = record {
-    unseen = leavers;
+  pub none_yet : (now : Duration) (rest : ℕ) (closing_connections : List (ClosingConnection C)) → rest ≡ length closing_connections
+      → AreInTime now rest closing_connections closing_connections
+  none_yet now rest closing_connections all = record {
+    unseen = closing_connections;
     seen = [];
     before = [];
-    are = sym (append-nil leavers);
+    are = sym (append-nil closing_connections);
     were = refl;
     count = sym all;
     in_time = All-nil (InTime now);
     rested = refl;
   }
 
-  pub all_seen : (now : Duration) (old leavers : List (Leaver C)) → AreInTime now 0 old leavers
-      → All (InTime now) leavers × (resting now leavers ≡ resting now old)
-  all_seen now old leavers s = go s.unseen s.count s.are s.were
+  pub all_seen : (now : Duration) (old closing_connections : List (ClosingConnection C)) → AreInTime now 0 old closing_connections
+      → All (InTime now) closing_connections × (resting now closing_connections ≡ resting now old)
+  all_seen now old closing_connections s = go s.unseen s.count s.are s.were
     where
-      go : (unseen : List (Leaver C)) → length unseen ≡ 0 → leavers ≡ unseen ++ s.seen
+      go : (unseen : List (ClosingConnection C)) → length unseen ≡ 0 → closing_connections ≡ unseen ++ s.seen
           → old ≡ s.before ++ unseen
-          → All (InTime now) leavers × (resting now leavers ≡ resting now old)
+          → All (InTime now) closing_connections × (resting now closing_connections ≡ resting now old)
       go [] count are were = (
         rw are s.in_time,
         ap (resting now) are ∙ s.rested ∙ ap (resting now) (sym (append-nil s.before) ∙ sym were),
@@ -65,17 +65,17 @@ module _ {C : Type 0} where
       go (l ∷ more) count are were = absurd (omega (arith, count))
 
   -- the first of them was seen, and behind the others stands what is left of it
-  step : (now : Duration) (rest : ℕ) (old leavers others left : List (Leaver C)) (l : Leaver C)
-      (kept : List (Leaver C))
-      → AreInTime now (rest + 1) old leavers → leavers ≡ l ∷ others → left ≡ others ++ kept
-      → ((seen : List (Leaver C)) → All (InTime now) seen → All (InTime now) (seen ++ kept))
-      → ((seen : List (Leaver C)) → resting now (seen ++ kept)
+  step : (now : Duration) (rest : ℕ) (old closing_connections others left : List (ClosingConnection C)) (l : ClosingConnection C)
+      (kept : List (ClosingConnection C))
+      → AreInTime now (rest + 1) old closing_connections → closing_connections ≡ l ∷ others → left ≡ others ++ kept
+      → ((seen : List (ClosingConnection C)) → All (InTime now) seen → All (InTime now) (seen ++ kept))
+      → ((seen : List (ClosingConnection C)) → resting now (seen ++ kept)
       ≡ resting now seen ++ resting now (l ∷ []))
       → AreInTime now rest old left
-  step now rest old leavers others left l kept s is stays in_time rests =
+  step now rest old closing_connections others left l kept s is stays in_time rests =
       go s.unseen s.count (sym is ∙ s.are) s.were
     where
-      go : (unseen : List (Leaver C)) → length unseen ≡ rest + 1 → l ∷ others ≡ unseen ++ s.seen
+      go : (unseen : List (ClosingConnection C)) → length unseen ≡ rest + 1 → l ∷ others ≡ unseen ++ s.seen
           → old ≡ s.before ++ unseen → AreInTime now rest old left
       go [] count are were = absurd (omega (arith, count))
       go (u ∷ more) count are were =
@@ -94,21 +94,21 @@ module _ {C : Type 0} where
                 ∙ sym (resting_push now s.before l);
           }
 
-  pub one_gone : (now : Duration) (rest : ℕ) (old leavers others : List (Leaver C)) (l : Leaver C)
-      → AreInTime now (rest + 1) old leavers → leavers ≡ l ∷ others → is_resting now l ≡ false
+  pub one_gone : (now : Duration) (rest : ℕ) (old closing_connections others : List (ClosingConnection C)) (l : ClosingConnection C)
+      → AreInTime now (rest + 1) old closing_connections → closing_connections ≡ l ∷ others → is_resting now l ≡ false
       → AreInTime now rest old others
-  one_gone now rest old leavers others l s is rests =
-      step now rest old leavers others others l [] s is (sym (append-nil others))
+  one_gone now rest old closing_connections others l s is rests =
+      step now rest old closing_connections others others l [] s is (sym (append-nil others))
       (λ seen all. rw (append-nil seen) all)
       (λ seen. rw rests (ap (resting now) (append-nil seen) ∙ sym (append-nil (resting now seen))))
 
-  pub one_stays : (now : Duration) (rest : ℕ) (old leavers others left : List (Leaver C))
-      (l a : Leaver C) → AreInTime now (rest + 1) old leavers → leavers ≡ l ∷ others
+  pub one_stays : (now : Duration) (rest : ℕ) (old closing_connections others left : List (ClosingConnection C))
+      (l a : ClosingConnection C) → AreInTime now (rest + 1) old closing_connections → closing_connections ≡ l ∷ others
       → left ≡ others ++ a ∷ [] → InTime now a
       → (is_resting now l ≡ true → a ≡ l) → (is_resting now l ≡ false → is_resting now a ≡ false)
       → AreInTime now rest old left
-  one_stays now rest old leavers others left l a s is stays in_time same due =
-      step now rest old leavers others left l (a ∷ []) s is stays
+  one_stays now rest old closing_connections others left l a s is stays in_time same due =
+      step now rest old closing_connections others left l (a ∷ []) s is stays
       (λ seen all. All-push (InTime now) seen a all in_time)
       (λ seen. resting_push now seen a ∙ ap (λ t. resting now seen ++ t) (go (is_resting now l) refl))
     where
@@ -117,7 +117,7 @@ module _ {C : Type 0} where
       go false is = rw (is, due is) refl
 
   -- who doesn't stay didn't rest
-  pub none_rested : (now : Duration) (l a : Leaver C) (stays : Bool)
+  pub none_rested : (now : Duration) (l a : ClosingConnection C) (stays : Bool)
       → (is_resting now l ≡ true → (stays ≡ true) × (a ≡ l)) → stays ≡ false
       → is_resting now l ≡ false
   none_rested now l a stays rests gone = go (is_resting now l) refl
@@ -126,8 +126,8 @@ module _ {C : Type 0} where
       go true is = let stayed = (rests is).0 in absurd (cc)
       go false is = is
 
-  pub some_left : (now : Duration) (rest : ℕ) (old leavers others : List (Leaver C))
-      → AreInTime now (rest + 1) old leavers → leavers ≡ others → ¬ (length others ≡ 0)
-  some_left now rest old leavers others s is none =
+  pub some_left : (now : Duration) (rest : ℕ) (old closing_connections others : List (ClosingConnection C))
+      → AreInTime now (rest + 1) old closing_connections → closing_connections ≡ others → ¬ (length others ≡ 0)
+  some_left now rest old closing_connections others s is none =
       let size = ap length (sym is ∙ s.are) ∙ length-append s.unseen s.seen in
       omega (arith, size, s.count, none)

@@ -6,7 +6,7 @@ use Rattle.std.proofs.lemmas.List.Elements.{All-cons, All-head, All-nil, All-tai
 use Rattle.std.specs.Duration.{as_nanos}
 use Rattle.std.specs.declared.time.Duration.{Duration}
 use Rattle.dispatch_room_sockets.specs.declared.kept_callers.Kept.{Kept}
-use Rattle.dispatch_room_sockets.specs.declared.leavers.Leaver.{Leaver}
+use Rattle.dispatch_room_sockets.specs.declared.closing_connections.ClosingConnection.{ClosingConnection}
 use Rattle.dispatch_room_sockets.specs.Pauses.{IsLeast, leaver_limit, limits, waiter_limits}
 
 -- the least of the one and these is the least of all
@@ -56,10 +56,10 @@ last_stands pause all s = s pause (record {
 module _ {C : Type 0} where
   -- a second stands for itself
   pub second_stands : (now : Duration) (w : C → Bool) (pause : ℕ) (waiters line : List (Kept C))
-      (leavers : List (Leaver C)) → pause ≡ 1000000000 → waiters ≡ line
-      → Stands pause (flat_map (waiter_limits now w) waiters ++ map (leaver_limit now) leavers)
-      (limits now w line leavers)
-  second_stands now w pause waiters line leavers second is = rw (second, is) (λ n l. l)
+      (closing_connections : List (ClosingConnection C)) → pause ≡ 1000000000 → waiters ≡ line
+      → Stands pause (flat_map (waiter_limits now w) waiters ++ map (leaver_limit now) closing_connections)
+      (limits now w line closing_connections)
+  second_stands now w pause waiters line closing_connections second is = rw (second, is) (λ n l. l)
 
   -- the next who waits is watched
   pub watched_stands : (now : Duration) (w : C → Bool) (k : Kept C) (pause paused : ℕ)
@@ -80,22 +80,23 @@ module _ {C : Type 0} where
       rw lesser (stands_on _ _ _ all (stands_on pause _ _ all (rw watched at (rw is at s))))
 
   -- the next who leaves
-  pub leaver_stands : (now : Duration) (l : Leaver C) (pause paused : ℕ) (leavers others : List (Leaver C))
-      (all : List ℕ) → leavers ≡ l ∷ others → paused ≡ min pause (leaver_limit now l)
-      → Stands pause (map (leaver_limit now) leavers) all
+  pub leaver_stands : (now : Duration) (l : ClosingConnection C) (pause paused : ℕ)
+      (closing_connections others : List (ClosingConnection C))
+      (all : List ℕ) → closing_connections ≡ l ∷ others → paused ≡ min pause (leaver_limit now l)
+      → Stands pause (map (leaver_limit now) closing_connections) all
       → Stands paused (map (leaver_limit now) others) all
-  leaver_stands now l pause paused leavers others all is lesser s =
+  leaver_stands now l pause paused closing_connections others all is lesser s =
       rw lesser (stands_on pause _ _ all (rw is at s))
 
   -- nobody who waits is left, and all who leave are
   pub no_waiters : (now : Duration) (w : C → Bool) (pause : ℕ) (waiters : List (Kept C))
-      (left leavers : List (Leaver C)) (all : List ℕ) → length waiters ≡ 0 → left ≡ leavers
-      → Stands pause (flat_map (waiter_limits now w) waiters ++ map (leaver_limit now) leavers) all
+      (left closing_connections : List (ClosingConnection C)) (all : List ℕ) → length waiters ≡ 0 → left ≡ closing_connections
+      → Stands pause (flat_map (waiter_limits now w) waiters ++ map (leaver_limit now) closing_connections) all
       → Stands pause (map (leaver_limit now) left) all
-  no_waiters now w pause [] left leavers all none is s = rw is s
-  no_waiters now w pause (k ∷ more) left leavers all none is s = absurd (omega (arith, none))
+  no_waiters now w pause [] left closing_connections all none is s = rw is s
+  no_waiters now w pause (k ∷ more) left closing_connections all none is s = absurd (omega (arith, none))
 
-  pub no_leavers : (now : Duration) (pause : ℕ) (leavers : List (Leaver C)) (all : List ℕ)
-      → length leavers ≡ 0 → Stands pause (map (leaver_limit now) leavers) all → Stands pause [] all
+  pub no_leavers : (now : Duration) (pause : ℕ) (closing_connections : List (ClosingConnection C)) (all : List ℕ)
+      → length closing_connections ≡ 0 → Stands pause (map (leaver_limit now) closing_connections) all → Stands pause [] all
   no_leavers now pause [] all none s = s
   no_leavers now pause (l ∷ more) all none s = absurd (omega (arith, none))

@@ -3,9 +3,9 @@ use Rattle.std.proofs.Common.{◌≡◌, ◌⊎◌, ◌∙◌, ap, arith, inl, i
 use Rattle.std.proofs.Common.{length, Bool, false, true, Option, None, Some, IfSome}
 use Rattle.std.proofs.lemmas.Option.{same_Some}
 use Rattle.std.specs.declared.time.Duration.{Duration}
-use Rattle.dispatch_room_sockets.specs.declared.doors.Client.{Client}
+use Rattle.dispatch_room_sockets.specs.declared.acceptors.Client.{Client}
 use Rattle.dispatch_room_sockets.specs.declared.kept_callers.Kept.{Kept}
-use Rattle.dispatch_room_sockets.specs.declared.leavers.Leaver.{Leaver}
+use Rattle.dispatch_room_sockets.specs.declared.closing_connections.ClosingConnection.{ClosingConnection}
 use Rattle.dispatch_room_sockets.specs.CallerHistories.{GivesNext}
 use Rattle.dispatch_room_sockets.specs.Departures.{Departs}
 use Rattle.dispatch_room_sockets.specs.PieceTurns.{GivesPiece, IsHindered, TakesBack, fresh}
@@ -71,16 +71,16 @@ module _ {T : Type 0} (shows : Option Duration → Type 0) (is_full : T → Type
 
 module _ {T : Type 0} (shows : Option Duration → Type 0) (is_stuck : T → Type 0) (keep : Duration)
     (k : Kept (Client T)) (is_paused is_open : Bool) (answered : Option Duration)
-    (line ready : List (Kept (Client T))) (next : ℕ) (leavers : List (Leaver (Client T))) where
+    (line ready : List (Kept (Client T))) (next : ℕ) (closing_connections : List (ClosingConnection (Client T))) where
   none_departs : (moment : Option Duration) → (is_open ≡ true → is_stuck k.caller.stream)
-      → IfSome moment (λ until. is_open ≡ true → ((leavers ≡ leavers) × is_stuck k.caller.stream)
-      ⊎ Departs shows (fresh k.caller) until leavers leavers)
+      → IfSome moment (λ until. is_open ≡ true → ((closing_connections ≡ closing_connections) × is_stuck k.caller.stream)
+      ⊎ Departs shows (fresh k.caller) until closing_connections closing_connections)
   none_departs None stuck = tt
   none_departs (Some until) stuck = λ open_yet. inl (refl, stuck open_yet)
 
   -- who got no answer, or who isn't parted from, is dropped
   pub gone_taken : (answered ≡ None) ⊎ ((is_paused ≡ false) × (is_open ≡ true → is_stuck k.caller.stream))
-      → TakesBack shows is_stuck keep k is_paused is_open answered line line ready next leavers leavers
+      → TakesBack shows is_stuck keep k is_paused is_open answered line line ready next closing_connections closing_connections
   gone_taken why = record {
     back = back_gone line ready next k.number;
     dropped = λ _. (refl, refl);

@@ -4,7 +4,7 @@ use Rattle.std.specs.Prelude.{length, not, Option, None, Some, Result, Ok, Err}
 use Rattle.std.specs.Io.KnownBytes.{Consumes}
 use Rattle.std.specs.Duration.{as_nanos, max_nanos}
 use Rattle.std.specs.declared.time.Duration.{Duration}
-use Rattle.dispatch_room_sockets.specs.declared.leavers.Leaver.{Leaver}
+use Rattle.dispatch_room_sockets.specs.declared.closing_connections.ClosingConnection.{ClosingConnection}
 use Rattle.dispatch_room_sockets.specs.declared.nonblocking_streams.NoBytes.{NoBytes}
 use Rattle.dispatch_room_sockets.specs.declared.nonblocking_streams.NoBytes.TheVariants.{Ever}
 use Rattle.dispatch_room_sockets.specs.Verdicts.{is_over}
@@ -23,19 +23,19 @@ IsSpent gives left after = gives (Ok 0) ⊎ gives (Err Ever)
 module _ {C : Type 0} where
   -- One stands behind those who are parted from, is kept until a moment, and rests two milliseconds
   -- from now on.
-  abbrev pub IsParting : C → Duration → Duration → List (Leaver C) → List (Leaver C) → Type 0
-  IsParting caller until now leavers more =
+  abbrev pub IsParting : C → Duration → Duration → List (ClosingConnection C) → List (ClosingConnection C) → Type 0
+  IsParting caller until now closing_connections more =
       (rests : Duration) × (as_nanos rests ≡ min (as_nanos now + 2000000) max_nanos)
-      × (more ≡ leavers ++ record { caller = caller; until = until; rests = Some rests } ∷ [])
+      × (more ≡ closing_connections ++ record { caller = caller; until = until; rests = Some rests } ∷ [])
 
   -- One is parted from at the moment that a clock shows. It is dropped only where the clock can't
   -- be read or 1,024 leave already, and they stay as they are.
-  abbrev pub Departs : (Option Duration → Type 0) → C → Duration → List (Leaver C)
-      → List (Leaver C) → Type 0
-  Departs shows caller until leavers more = ((more ≡ leavers)
-      × (shows None ⊎ (1024 ≤ length leavers)))
-      ⊎ ((now : Duration) × shows (Some now) × IsParting caller until now leavers more)
+  abbrev pub Departs : (Option Duration → Type 0) → C → Duration → List (ClosingConnection C)
+      → List (ClosingConnection C) → Type 0
+  Departs shows caller until closing_connections more = ((more ≡ closing_connections)
+      × (shows None ⊎ (1024 ≤ length closing_connections)))
+      ⊎ ((now : Duration) × shows (Some now) × IsParting caller until now closing_connections more)
 
   -- one who leaves is in its time, and it isn't its turn yet
-  abbrev pub is_resting : Duration → Leaver C → Bool
+  abbrev pub is_resting : Duration → ClosingConnection C → Bool
   is_resting now l = not (is_over now l.until || is_due l.rests now)

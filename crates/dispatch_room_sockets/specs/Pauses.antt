@@ -5,7 +5,7 @@ use Rattle.std.specs.Duration.{as_nanos, max_nanos}
 use Rattle.std.specs.declared.time.Duration.{Duration}
 use Rattle.dispatch_room_sockets.specs.declared.kept_callers.Heard.{Heard}
 use Rattle.dispatch_room_sockets.specs.declared.kept_callers.Kept.{Kept}
-use Rattle.dispatch_room_sockets.specs.declared.leavers.Leaver.{Leaver}
+use Rattle.dispatch_room_sockets.specs.declared.closing_connections.ClosingConnection.{ClosingConnection}
 
 -- it was waited for someone to move, so long at most, and this was the moment after it, where it is
 -- known
@@ -41,11 +41,11 @@ module _ {C : Type 0} where
   waiter_limits now is_watched k =
       (as_nanos k.until - as_nanos now) ∷ (if is_watched k.caller then [] else 2000000 ∷ [])
 
-  abbrev pub leaver_limit : Duration → Leaver C → ℕ
+  abbrev pub leaver_limit : Duration → ClosingConnection C → ℕ
   leaver_limit now l = looked_at_by l.rests l.until - as_nanos now
 
   -- so long it may be waited: a second, and as each of those allows who wait or leave
-  abbrev pub limits : Duration → (C → Bool) → List (Kept C) → List (Leaver C) → List ℕ
-  limits now is_watched line leavers =
+  abbrev pub limits : Duration → (C → Bool) → List (Kept C) → List (ClosingConnection C) → List ℕ
+  limits now is_watched line closing_connections =
       1000000000
-      ∷ flat_map (waiter_limits now is_watched) line ++ map (leaver_limit now) leavers
+      ∷ flat_map (waiter_limits now is_watched) line ++ map (leaver_limit now) closing_connections

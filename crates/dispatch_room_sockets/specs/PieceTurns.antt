@@ -3,10 +3,10 @@ use Rattle.std.specs.Prelude.{◌≡◌, ◌⊎◌, ◌+◌, ◌<◌, ◌==◌, 
 use Rattle.std.specs.Prelude.{min, option_map, Option, None, Some, IfSome, IsSome, MatchOption}
 use Rattle.std.specs.Duration.{as_nanos, max_nanos}
 use Rattle.std.specs.declared.time.Duration.{Duration}
-use Rattle.dispatch_room_sockets.specs.declared.doors.Client.{Client}
+use Rattle.dispatch_room_sockets.specs.declared.acceptors.Client.{Client}
 use Rattle.dispatch_room_sockets.specs.declared.entrances.Entrance.{Ghosts}
 use Rattle.dispatch_room_sockets.specs.declared.kept_callers.Kept.{Kept}
-use Rattle.dispatch_room_sockets.specs.declared.leavers.Leaver.{Leaver}
+use Rattle.dispatch_room_sockets.specs.declared.closing_connections.ClosingConnection.{ClosingConnection}
 use Rattle.dispatch_room_sockets.specs.declared.waiting_callers.Waiting.{Waiting}
 use Rattle.dispatch_room_sockets.specs.CallerHistories.{ComesBack, GivesNext}
 use Rattle.dispatch_room_sockets.specs.Departures.{Departs}
@@ -59,7 +59,7 @@ module _ {T : Type 0} where
   -- nobody else is to be served, while nobody else moves, until something is to be done for
   -- another.
   pub record BeginsTurn (shows : Option Duration → Type 0)
-      (line ready : List (Kept (Client T))) (leavers : List (Leaver (Client T)))
+      (line ready : List (Kept (Client T))) (closing_connections : List (ClosingConnection (Client T)))
       (only_until turn_ends : Duration) : Type 0
     where
       pub now : Duration
@@ -69,7 +69,7 @@ module _ {T : Type 0} where
       pub only : as_nanos only_until ≡ min (as_nanos now + pause) max_nanos
       pub beside : (length ready == 0) ≡ false → pause ≡ 0
       pub single : (length ready == 0) ≡ true
-          → IsLeast pause (limits now (λ c. c.is_watched) line leavers)
+          → IsLeast pause (limits now (λ c. c.is_watched) line closing_connections)
 
   -- One was served, and got an answer that may be waited for until a moment, or got none. It waits
   -- again where its piece ended and its stream may go on. Else it is parted from, where no read of
@@ -77,14 +77,14 @@ module _ {T : Type 0} where
   pub record TakesBack (shows : Option Duration → Type 0) (is_stuck : T → Type 0)
       (keep : Duration) (it : Kept (Client T)) (is_paused is_open : Bool)
       (answered : Option Duration) (line lines ready : List (Kept (Client T))) (next : ℕ)
-      (leavers more : List (Leaver (Client T))) : Type 0
+      (closing_connections more : List (ClosingConnection (Client T))) : Type 0
     where
       pub back : ComesBack it.number line lines ready next
-      pub dropped : answered ≡ None → (lines ≡ line) × (more ≡ leavers)
-      pub waits : is_paused ≡ true → more ≡ leavers
+      pub dropped : answered ≡ None → (lines ≡ line) × (more ≡ closing_connections)
+      pub waits : is_paused ≡ true → more ≡ closing_connections
       pub again : is_paused ≡ true → IfSome answered (λ _. length line + length ready < 1024
           → WaitsAgain shows keep it.number (fresh it.caller) line lines)
       pub parted : is_paused ≡ false → lines ≡ line
       pub departs : is_paused ≡ false → IfSome answered (λ until. is_open ≡ true
-          → ((more ≡ leavers) × is_stuck it.caller.stream)
-          ⊎ Departs shows (fresh it.caller) until leavers more)
+          → ((more ≡ closing_connections) × is_stuck it.caller.stream)
+          ⊎ Departs shows (fresh it.caller) until closing_connections more)

@@ -80,7 +80,7 @@ module _ {E C : Type 0} (g : Ghosts E C) where
     pub now : Option Duration
     pub shown : g.shows w.entrance now
     pub least : MatchOption now (as_nanos most ≡ 1000000000) (λ now. IsLeast (as_nanos most)
-        (limits now (g.is_watched w.entrance) w.line.items w.leavers.items))
+        (limits now (g.is_watched w.entrance) w.line.items w.closing_connections.items))
 
   -- It was waited so long at most. Before that, those went who leave and whose time was over by the
   -- moment that the clock showed, and who rested stayed. After it a round was made, as of the
@@ -89,9 +89,9 @@ module _ {E C : Type 0} (g : Ghosts E C) where
     pub before : Option Duration
     pub shown : g.shows old.entrance before
     pub in_time :
-        IfSome before (λ now. All (λ l. as_nanos now < as_nanos l.until) new.leavers.items)
+        IfSome before (λ now. All (λ l. as_nanos now < as_nanos l.until) new.closing_connections.items)
     pub rest : IfSome before (λ now.
-        filter (is_resting now) new.leavers.items ≡ filter (is_resting now) old.leavers.items)
+        filter (is_resting now) new.closing_connections.items ≡ filter (is_resting now) old.closing_connections.items)
     pub after : Option Duration
     pub noted : Grows (g.seen old.entrance).waits (g.seen new.entrance).waits
         (record { most = most; after = after } ∷ [])

@@ -21,13 +21,13 @@
 //! files: where all were callers', the database could not open its log.
 #![tactic(auto)]
 
+pub mod acceptors;
 pub mod client;
+mod closing_connections;
 pub mod connection_halves;
-pub mod doors;
 pub mod entrances;
 pub mod kept_callers;
 pub mod laws;
-mod leavers;
 mod lines;
 pub mod lingering_close;
 pub mod lookaheads;

@@ -17,7 +17,7 @@ use std::time::Duration;
 const MOST_PIECES: u32 = 4096;
 
 /// A peer whose connection is being closed.
-pub trait Parting {
+pub trait Closing {
     // The bytes that it still sends, where they are known.
     ghost left: { Self → Option (List ℕ) };
 
@@ -55,7 +55,7 @@ pub trait Parting {
 /// is read and thrown away, and then the connection is dropped (RFC 9112, section 9.6). A
 /// connection with bytes that nobody reads would be reset as it is dropped, and the system would
 /// throw away what it has not sent yet. All this takes no longer than the answer may wait.
-pub fn part<P: Parting>(peer: &mut P)
+pub fn part<P: Closing>(peer: &mut P)
     ensures parted { (steps : List Step) × Grows (P.done peer.old) (P.done peer.new) steps
         × IsParted (drains_until (P.is_open peer.old) (P.answered peer.old)) steps }
     ensures thrown { ThrowsAway 16777216 (P.left peer.old) (P.left peer.new) }
@@ -77,7 +77,7 @@ fn drains_until(is_open: bool, answered: Option<Duration>) -> Option<Duration>
 }
 
 // Throws away what still comes until a moment: until no more comes, or so many pieces.
-fn drain<P: Parting>(peer: &mut P, moment: Duration)
+fn drain<P: Closing>(peer: &mut P, moment: Duration)
     ensures drained { (steps : List Step) × Grows (P.done peer.old) (P.done peer.new) steps
         × IsDrained moment steps }
     ensures thrown { ThrowsAway 16777216 (P.left peer.old) (P.left peer.new) }
@@ -106,7 +106,7 @@ impl<'a, T: Read + Write + OpenStream, C: MonotonicClock> Peer<'a, T, C> {
 }
 
 // What was done with a socket no contract can say.
-impl<'a, T: Read + Write + OpenStream, C: MonotonicClock> Parting for Peer<'a, T, C> {
+impl<'a, T: Read + Write + OpenStream, C: MonotonicClock> Closing for Peer<'a, T, C> {
     ghost left = { λ peer. T.remaining peer.reader.stream };
 
     ghost done = { λ _. None };

@@ -15,7 +15,7 @@ ghost use Rattle.dispatch_room_sockets.specs.declared.lookaheads.Lookahead.TheVa
 ghost use Rattle.dispatch_room_sockets.specs.declared.nonblocking_streams.NoBytes.{NoBytes};
 ghost use Rattle.room_http_messages.specs.Streams.{CountsBy, found_end, known_count};
 
-use crate::doors::{Client, Door, PAUSE};
+use crate::acceptors::{Acceptor, Client, PAUSE};
 use crate::entrances::Entrance;
 use crate::kept_callers::{Kept, is_over};
 use crate::lookaheads::{Lookahead, look_ahead};
@@ -347,7 +347,7 @@ fn begin_turn<C: MonotonicClock, T: NonblockingStream + AsRawFd>(
 /// where the clock can't be read or there is no memory.
 pub fn next_piece<'a, C: MonotonicClock, L: NonblockingListener>(
     clock: &'a C,
-    waiting: &mut Waiting<Door<'a, C, L>, Client<L::Stream>>,
+    waiting: &mut Waiting<Acceptor<'a, C, L>, Client<L::Stream>>,
     patience: Duration,
 ) -> Option<(PieceReader<'a, C, L::Stream>, PieceWriter<'a, C, L::Stream>)>
     ensures reader { IfSome result (λ sides. sides.0.failed ≡ false) }
@@ -361,10 +361,10 @@ pub fn next_piece<'a, C: MonotonicClock, L: NonblockingListener>(
     ensures given { GivesPiece (C.shows clock.now) L.Stream.is_full waiting.old.line.items
         waiting.new.line.items waiting.old.ready.items waiting.new.ready.items waiting.old.next
         waiting.new.next (option_map (λ sides. sides.0.kept) result) }
-    ensures hears { HearsPiece ⟦<Door<'a, C, L> as Entrance>⟧ waiting.old waiting.new
+    ensures hears { HearsPiece ⟦<Acceptor<'a, C, L> as Entrance>⟧ waiting.old waiting.new
         (option_map (λ sides. sides.0.kept) result) }
     ensures turn { IfSome result (λ sides. BeginsTurn (C.shows clock.now)
-        waiting.new.line.items waiting.new.ready.items waiting.new.leavers.items
+        waiting.new.line.items waiting.new.ready.items waiting.new.closing_connections.items
         sides.0.only_until sides.0.turn_ends) }
     ensures times { (waiting.new.keep ≡ waiting.old.keep)
         × (waiting.new.patience ≡ waiting.old.patience) }
@@ -389,7 +389,7 @@ pub fn next_piece<'a, C: MonotonicClock, L: NonblockingListener>(
 /// Takes the sides of a piece back that was served. Where the stream may go on, its next request is
 /// waited for among the others; else it is parted from. Who got no answer is dropped.
 pub fn take_back<'a, C: MonotonicClock, L: NonblockingListener>(
-    waiting: &mut Waiting<Door<'a, C, L>, Client<L::Stream>>,
+    waiting: &mut Waiting<Acceptor<'a, C, L>, Client<L::Stream>>,
     reader: PieceReader<'a, C, L::Stream>,
     writer: PieceWriter<'a, C, L::Stream>,
 )
@@ -398,7 +398,7 @@ pub fn take_back<'a, C: MonotonicClock, L: NonblockingListener>(
         reader.entry.kept reader.entry.is_paused (not (reader.entry.failed || reader.entry.ended))
         (if writer.entry.failed then None else writer.entry.until) waiting.old.line.items
         waiting.new.line.items waiting.old.ready.items waiting.old.next
-        waiting.old.leavers.items waiting.new.leavers.items }
+        waiting.old.closing_connections.items waiting.new.closing_connections.items }
     ensures same { (waiting.new.ready.items ≡ waiting.old.ready.items)
         × (waiting.new.next ≡ waiting.old.next) }
     ensures times { (waiting.new.keep ≡ waiting.old.keep)

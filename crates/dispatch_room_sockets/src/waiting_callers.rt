@@ -5,9 +5,9 @@
 ghost use Rattle.std.specs.Prelude.{◌≡◌, ◌+◌, ◌≤◌, IfOk};
 ghost use Rattle.std.specs.VecDeque.{deque_len, deque_capacity};
 
+use crate::closing_connections::{ClosingConnection, throw_away_all};
 use crate::entrances::Entrance;
 use crate::kept_callers::Kept;
-use crate::leavers::{Leaver, throw_away_all};
 use crate::lines::{admit, look_at_all};
 use crate::timeouts::earlier;
 use std::alloc::{AllocError, Global};
@@ -32,7 +32,7 @@ pub struct Waiting<E, C> {
     line: VecDeque<Kept<C>>,
     // Those who are to be served, in the order in which a look found that.
     ready: VecDeque<Kept<C>>,
-    leavers: VecDeque<Leaver<C>>,
+    closing_connections: VecDeque<ClosingConnection<C>>,
     // The number of the next who calls.
     next: u64,
     // How long one may be silent.
@@ -41,9 +41,9 @@ pub struct Waiting<E, C> {
     patience: Duration,
     ghost line_room: { 1024 ≤ deque_capacity line },
     ghost ready_room: { 1024 ≤ deque_capacity ready },
-    ghost leavers_room: { 1024 ≤ deque_capacity leavers },
+    ghost leavers_room: { 1024 ≤ deque_capacity closing_connections },
     ghost few: { deque_len line + deque_len ready ≤ 1024 },
-    ghost few_leave: { deque_len leavers ≤ 1024 },
+    ghost few_leave: { deque_len closing_connections ≤ 1024 },
 }
 
 impl<E: Entrance<Caller = C>, C: Drop> Waiting<E, C> {
@@ -75,7 +75,7 @@ impl<E: Entrance<Caller = C>, C: Drop> Waiting<E, C> {
             entrance,
             line: VecDeque::with_capacity(alloc, MOST_KEPT)?,
             ready: VecDeque::with_capacity(alloc, MOST_KEPT)?,
-            leavers: VecDeque::with_capacity(alloc, MOST_KEPT)?,
+            closing_connections: VecDeque::with_capacity(alloc, MOST_KEPT)?,
             next: 0,
             keep,
             patience,
@@ -183,12 +183,12 @@ impl<E: Entrance<Caller = C>, C: Drop> Waiting<E, C> {
         ensures same { queues E.Entrance self.new ≡ queues E.Entrance self.old }
         ensures waits { (E.seen self.new.entrance).waits ≡ (E.seen self.old.entrance).waits }
         ensures in_time { IfSome now (λ now.
-            All (λ l. as_nanos now < as_nanos l.until) self.new.leavers.items) }
-        ensures rest { IfSome now (λ now. filter (is_resting now) self.new.leavers.items
-            ≡ filter (is_resting now) self.old.leavers.items) }
+            All (λ l. as_nanos now < as_nanos l.until) self.new.closing_connections.items) }
+        ensures rest { IfSome now (λ now. filter (is_resting now) self.new.closing_connections.items
+            ≡ filter (is_resting now) self.old.closing_connections.items) }
     {
         if let Some(now) = now {
-            throw_away_all(&mut self.entrance, &mut self.leavers, now);
+            throw_away_all(&mut self.entrance, &mut self.closing_connections, now);
         }
     }
 
@@ -196,11 +196,11 @@ impl<E: Entrance<Caller = C>, C: Drop> Waiting<E, C> {
     fn look(&mut self, now: Duration)
         ensures round { IsRound now (queues E.Entrance self.old) (queues E.Entrance self.new) }
         ensures in_time { AreInTime now self.new.line.items }
-        ensures leavers { self.new.leavers ≡ self.old.leavers }
+        ensures closing_connections { self.new.closing_connections ≡ self.old.closing_connections }
         ensures waits { (E.seen self.new.entrance).waits ≡ (E.seen self.old.entrance).waits }
     {
         let kept = self.line.len() + self.ready.len();
-        let most = MOST_KEPT.saturating_sub(kept + self.leavers.len());
+        let most = MOST_KEPT.saturating_sub(kept + self.closing_connections.len());
         let until = now.saturating_add(self.keep);
         admit(
             &mut self.entrance,
@@ -223,7 +223,7 @@ impl<E: Entrance<Caller = C>, C: Drop> Waiting<E, C> {
     pub fn pause(&self, now: Duration) -> Duration
         ensures bound { as_nanos result ≤ 1_000_000_000 }
         ensures least { IsLeast (as_nanos result) (limits now (E.is_watched self.now.entrance)
-            self.now.line.items self.now.leavers.items) }
+            self.now.line.items self.now.closing_connections.items) }
     {
         let mut pause = Duration::from_secs(LONGEST_PAUSE);
         for kept in &self.line {
@@ -232,7 +232,7 @@ impl<E: Entrance<Caller = C>, C: Drop> Waiting<E, C> {
                 pause = earlier(pause, Duration::from_millis(SHORTEST_PAUSE));
             }
         }
-        for leaver in &self.leavers {
+        for leaver in &self.closing_connections {
             pause = earlier(pause, leaver.next().saturating_sub(now));
         }
         pause
@@ -261,7 +261,7 @@ impl<E: Entrance<Caller = C>, C: Drop> Waiting<E, C> {
         ensures back { ComesBack kept.number self.old.line.items self.new.line.items
             self.old.ready.items self.old.next }
         ensures same { (self.new.ready.items ≡ self.old.ready.items)
-            × (self.new.leavers ≡ self.old.leavers) × (self.new.next ≡ self.old.next) }
+            × (self.new.closing_connections ≡ self.old.closing_connections) × (self.new.next ≡ self.old.next) }
         ensures times { (self.new.keep ≡ self.old.keep) × (self.new.patience ≡ self.old.patience) }
     {
         let now = self.entrance.now().unwrap_or(Duration::ZERO);
@@ -279,7 +279,7 @@ impl<E: Entrance<Caller = C>, C: Drop> Waiting<E, C> {
     /// the clock can't be read, or too many leave, it is dropped.
     pub fn part(&mut self, kept: Kept<C>, until: Duration)
         ensures departs { Departs (E.shows self.old.entrance) kept.caller until
-            self.old.leavers.items self.new.leavers.items }
+            self.old.closing_connections.items self.new.closing_connections.items }
         ensures back { ComesBack kept.number self.old.line.items self.new.line.items
             self.old.ready.items self.old.next }
         ensures same { (self.new.line.items ≡ self.old.line.items)
@@ -289,12 +289,13 @@ impl<E: Entrance<Caller = C>, C: Drop> Waiting<E, C> {
         let Some(now) = self.entrance.now() else {
             return;
         };
-        if self.leavers.len() < MOST_KEPT {
-            self.leavers.push_back_reserved(Leaver {
-                caller: kept.caller,
-                until,
-                rests: Some(now.saturating_add(Duration::from_millis(SHORTEST_PAUSE))),
-            });
+        if self.closing_connections.len() < MOST_KEPT {
+            self.closing_connections
+                .push_back_reserved(ClosingConnection {
+                    caller: kept.caller,
+                    until,
+                    rests: Some(now.saturating_add(Duration::from_millis(SHORTEST_PAUSE))),
+                });
         }
     }
 }

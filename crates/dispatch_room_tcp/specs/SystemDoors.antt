@@ -4,7 +4,7 @@ use Rattle.std.specs.declared.net.tcp.TcpListener.{TcpListener}
 use Rattle.std.specs.declared.net.tcp.TcpStream.{TcpStream}
 use Rattle.std.specs.declared.rc.Rc.{Rc}
 use Rattle.std.specs.declared.rt.LibcRuntime.{LibcRuntime}
-use Rattle.dispatch_room_tcp.specs.declared.tcp_doors.TcpDoor.{TcpDoor}
+use Rattle.dispatch_room_tcp.specs.declared.tcp_acceptors.TcpDoor.{TcpDoor}
 
 -- its clock, its listener and its streams are the system's
 abbrev pub SystemDoor : Type 0

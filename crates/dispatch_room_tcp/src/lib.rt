@@ -7,5 +7,5 @@ pub mod hosts;
 mod listeners;
 mod opened_names;
 pub mod serve;
+mod tcp_acceptors;
 mod tcp_callers;
-mod tcp_doors;

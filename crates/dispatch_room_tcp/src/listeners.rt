@@ -9,9 +9,9 @@ ghost use Rattle.dispatch_room_sockets.specs.LingeringClose.{Step};
 
 use dispatch_room_exit::exit_status::Failure;
 use dispatch_room_exit::failure_causes::Explainer;
+use dispatch_room_sockets::acceptors::PAUSE;
 use dispatch_room_sockets::connection_halves::sides;
-use dispatch_room_sockets::doors::PAUSE;
-use dispatch_room_sockets::lingering_close::{Parting, Peer};
+use dispatch_room_sockets::lingering_close::{Closing, Peer};
 use dispatch_room_sockets::socket_readers::SocketReader;
 use dispatch_room_sockets::socket_writers::SocketWriter;
 use dispatch_room_sockets::timeouts::Waits;
@@ -32,7 +32,7 @@ pub trait Listener: Drop {
     type Writer: Sink;
 
     /// The peer of a connection, from which the room parts.
-    type Peer: Parting;
+    type Peer: Closing;
 
     // The calls that came so far, where they are known: what each began with, or none where no
     // connection came of it.

@@ -11,7 +11,7 @@ ghost use Rattle.dispatch_room_serving.specs.Callers.{MayCall, Prints, PrintsSta
 ghost use Rattle.dispatch_room_serving.specs.Journals.{EndsAfter, failed_by};
 ghost use Rattle.dispatch_room_serving.specs.declared.list_places.Finding.TheVariants.{Truncated};
 ghost use Rattle.dispatch_room_tcp.specs.ServedFiles.{IsAddressOf, IsDoorOf, IsServe, IsServed};
-ghost use Rattle.dispatch_room_tcp.specs.ServedFiles.{IsServedAt, IsServedBy, PrintsServing};
+ghost use Rattle.dispatch_room_tcp.specs.ServedFiles.{IsServedAt, PrintsServing};
 ghost use Rattle.dispatch_room_tcp.specs.ServedFiles.{begins_at, ended, is_endless, is_synced_by};
 ghost use Rattle.dispatch_room_tcp.specs.ServedFiles.{keeps_questions_by, manner_of, limits_of};
 ghost use Rattle.dispatch_room_tcp.specs.ServedFiles.{watch_of};
@@ -21,8 +21,8 @@ ghost use Rattle.dispatch_room_disk.specs.SystemFiles.{system};
 
 use crate::hosts::{Host, Machine};
 use crate::listeners::{Listener, TcpAddress};
+use crate::tcp_acceptors::{SystemDoor, TcpDoor};
 use crate::tcp_callers::TcpCallers;
-use crate::tcp_doors::{SystemDoor, TcpDoor};
 use dispatch_room_cli::tasks::Service;
 use dispatch_room_disk::room_files::RoomFile;
 use dispatch_room_exit::exit_status::{Done, Failure};
@@ -61,9 +61,9 @@ pub fn serve_file<M: Machine, O: Write>(
     let journal = journal_file(machine, &service)?;
     let run = ServiceRun { host, service };
     if is_endless(&run.service) {
-        serve_at_door(machine, file, &run, journal, out)
+        serve_at(machine, file, &run, journal, door_of(file, &run), out)
     } else {
-        serve_at_address(machine, file, &run, journal, out)
+        serve_at(machine, file, &run, journal, address_of(&run), out)
     }
 }
 
@@ -82,22 +82,7 @@ fn is_endless(service: &Service<'_>) -> bool
     service.connections == u64::MAX
 }
 
-// Serves the room of a file at a door, until it is stopped.
-fn serve_at_door<'a, M: Machine, O: Write>(
-    machine: &mut M,
-    file: &'a str,
-    run: &ServiceRun<'a>,
-    journal: Option<OpenedList<M::File>>,
-    out: &mut O,
-) -> Result<Done, Failure>
-    ensures { IsServedBy system M.File.Write.contents true journal file.now run.now.service
-        (at (O.contents out.old) (M.done machine.old))
-        (at (O.contents out.new) (M.done machine.new)) result }
-{
-    serve_at(machine, file, run, journal, door_of(file, run), out)
-}
-
-// The door of a service, at which the room of a file is served.
+// The door of a service that goes on until it is stopped.
 fn door_of<'a>(file: &'a str, run: &ServiceRun<'a>) -> SystemDoor<'a, HostRuntime>
     ensures door { IsDoorOf run.now.service result }
     ensures deaf { is_some result.waiting ≡ false }
@@ -106,21 +91,6 @@ fn door_of<'a>(file: &'a str, run: &ServiceRun<'a>) -> SystemDoor<'a, HostRuntim
     let patience = waits_of(&run.service).patience;
     let host = run.host;
     TcpDoor::new(host.rt, host, file, run.service.address, keep, patience)
-}
-
-// Serves the room of a file to as many connections as its service says, one after another.
-fn serve_at_address<M: Machine, O: Write>(
-    machine: &mut M,
-    file: &str,
-    run: &ServiceRun<'_>,
-    journal: Option<OpenedList<M::File>>,
-    out: &mut O,
-) -> Result<Done, Failure>
-    ensures { IsServedBy system M.File.Write.contents false journal file.now run.now.service
-        (at (O.contents out.old) (M.done machine.old))
-        (at (O.contents out.new) (M.done machine.new)) result }
-{
-    serve_at(machine, file, run, journal, address_of(run), out)
 }
 
 // The address of a service that serves so many connections.

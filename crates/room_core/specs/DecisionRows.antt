@@ -5,7 +5,7 @@ use Rattle.room_types.specs.declared.asks.Ask.{Ask}
 use Rattle.room_types.specs.declared.asks.Press.{Press}
 use Rattle.room_types.specs.declared.tables.Report.{Report}
 use Rattle.room_model.specs.Decisions.{Verdict, refuse_if, show}
-use Rattle.room_model.specs.Queries.{kept_report}
+use Rattle.room_model.specs.Queries.{calls_of, incident_of, kept_report}
 use Rattle.room_model.specs.Reports.{same_press}
 use Rattle.room_model.specs.Room.{Room}
 use Rattle.room_model.specs.Shares.{own}
@@ -17,6 +17,11 @@ use Rattle.room_types.specs.declared.refusal_statuses.Refusal.TheVariants as ref
 -- The rows are those of division d's that the ask reads at this moment, or all of them.
 abbrev pub AreRead : ℕ → Ask → ℕ → Room → Room → Type 0
 AreRead d a at rows r = (rows ≡ working d a at r) ⊎ (rows ≡ own d r)
+
+-- The rows have just what the room has of an incident: its row, and its calls.
+pub record HasIncident (d n : ℕ) (rows r : Room) : Type 0 where
+  pub incident : incident_of d n rows ≡ incident_of d n r
+  pub calls : calls_of d n rows ≡ calls_of d n r
 
 -- a report that is asked for has a number that the vehicle did not send before
 abbrev pub IsUnsent : Callsign → Ask → Room → Type 0

@@ -95,6 +95,8 @@ fn decide(
         Ask::Loans => loans(alloc, slice),
         Ask::Offers => offers(alloc, slice),
         Ask::Times(from, to) => day_times(alloc, slice, *from, *to),
-        Ask::Call(_) | Ask::Order | Ask::Report(_) | Ask::Last => Err(Refusal::WrongRole),
+        Ask::Call(_) | Ask::Order | Ask::Job | Ask::Report(_) | Ask::Last => {
+            Err(Refusal::WrongRole)
+        }
     }
 }

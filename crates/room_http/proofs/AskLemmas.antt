@@ -39,6 +39,7 @@ unfolding request_by
 times_are_desks target.Call body day is =
     absurd (no_times (option_and_then (ask_with_body target.Call) (fields_of body)) day is)
 times_are_desks target.Order body day is = absurd (cc)
+times_are_desks target.Job body day is = absurd (cc)
 times_are_desks target.Last body day is = absurd (cc)
 times_are_desks target.Report body day is =
     absurd (no_times (option_and_then (ask_with_body target.Report) (fields_of body)) day is)

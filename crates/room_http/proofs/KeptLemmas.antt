@@ -28,7 +28,7 @@ use Rattle.room_http.specs.KeptMessages.{Acts, ActsOnEach, AreKept, AreReplies, 
 use Rattle.room_http.specs.KeptMessages.{IsBegun, IsCome, IsRecord, KeepsEach, KeepsOne, Tapes}
 use Rattle.room_http.specs.KeptMessages.{Unmoved, answer_kept, came_of, response_of}
 use Rattle.room_http.specs.Dialogues.{Timed, IsFront, IsReplyTo}
-use Rattle.room_http.specs.Course.{Course}
+use Rattle.room_http.specs.ServedTrace.{ServedTrace}
 use Rattle.room_http.proofs.ServeLemmas.{last_of, still_begins}
 use Rattle.room_http.proofs.StreamLemmas.{Passes, Begins-push}
 
@@ -278,8 +278,8 @@ module _ (came : ℕ → List ℕ → List ℕ) (response : List ℕ → List �
       before : Noted step setting left old remains mid early stood stays outs answers
       before = Noted-kept early_left remains mid early stood stays outs answers noted same
 
-      abbrev Course-to : ServeEnd → Course
-      Course-to e = record { outs = outs; answers = answers; last = last_of e (o, at) }
+      abbrev ServedTrace-to : ServeEnd → ServedTrace
+      ServedTrace-to e = record { outs = outs; answers = answers; last = last_of e (o, at) }
 
       abbrev Now : List Timed → List (List ℕ) → Type 0
       Now = ActsOnEach step setting late stood stands
@@ -370,7 +370,7 @@ module _ (came : ℕ → List ℕ → List ℕ) (response : List ℕ → List �
       }
 
       stopped : later → Unmoved late stays stands → DoesNothing mid new
-          → KeepsEach came response lasts Now left old new ClockFault (Course-to ClockFault)
+          → KeepsEach came response lasts Now left old new ClockFault (ServedTrace-to ClockFault)
       stopped same still none = record {
         text = before.text;
         kept = before.kept;
@@ -407,7 +407,7 @@ module _ (came : ℕ → List ℕ → List ℕ) (response : List ℕ → List �
 
       -- serving ended with it
       pub Noted-breaks : (end : ServeEnd) → One (Err end)
-          → KeepsEach came response lasts Now left old new end (Course-to end)
+          → KeepsEach came response lasts Now left old new end (ServedTrace-to end)
       Noted-breaks ClockFault one = stopped one.0 one.1 one.2
       Noted-breaks Closed one = begun Closed one.0 one.1 one.2 one.3
       Noted-breaks Cut one = begun Cut one.0 one.1 one.2 one.3

@@ -10,6 +10,7 @@ use Rattle.room_types.specs.declared.asks.Ask.{Ask}
 use Rattle.room_types.specs.declared.asks.Ask.TheVariants.{Call, Order, Queue, Report}
 use Rattle.room_types.specs.declared.asks.CallForm.{CallForm}
 use Rattle.room_types.specs.declared.asks.Event.{Event}
+use Rattle.room_types.specs.declared.asks.Who.TheVariants.{Crew}
 use Rattle.room_types.specs.declared.fleet.Terminal.{Terminal}
 use Rattle.room_types.specs.declared.refusal_statuses.Refusal.{Refusal}
 use Rattle.room_types.specs.declared.refusal_statuses.Refusal.TheVariants.{SerialReused}
@@ -18,7 +19,7 @@ use Rattle.room_laws.proofs.OrderLaws.{orders_kept, stays_in}
 use Rattle.room_laws.proofs.OrdersReach.{orders_reach, to_crew}
 use Rattle.room_laws.proofs.UrgentQueues.{desk_sees}
 use Rattle.room_model.proofs.AssignedOnce.{of_one_order, one_assignment, one_open_turn}
-use Rattle.room_model.proofs.CrewLaws.{mine_answer, mine_equal}
+use Rattle.room_model.proofs.CrewLaws.{agreed_rows, crew_alike, mine_equal}
 use Rattle.room_model.proofs.KeptEvents.{addressed_run, addressed_still, run_kept}
 use Rattle.room_model.proofs.RefusedAgain.{outside_still, report_answered_again, serial_again}
 use Rattle.room_model.proofs.RepeatLaws.{call_repeated}
@@ -34,7 +35,7 @@ use Rattle.room_model.specs.Queries.{assignment_at, kept_call, vehicle_at}
 use Rattle.room_model.specs.Reports.{order_of}
 use Rattle.room_model.specs.Room.{IsInOrder, Room}
 use Rattle.room_model.specs.Run.{desk_answers, is_desk, room_run}
-use Rattle.room_model.specs.Shares.{mine, own}
+use Rattle.room_model.specs.Shares.{AgreeOn, mine, own}
 use Rattle.room_model.specs.Step.{IsAddressed, answer_to, decided, room_after}
 use Rattle.room_model.specs.RoomAgreements.{IsWellFormed}
 use Rattle.room_laws.proofs.Looks.{is_shown, look_in_time}
@@ -301,15 +302,17 @@ module _ (setting : HttpSettings) (terminals : List Terminal) (xs : List Exchang
 
   crew : (before rest : List Exchange) (x : Exchange) (c : Callsign) (ask : Ask) (at : ℕ)
       (other : Room) → xs ≡ before ++ x ∷ rest → x.found ≡ Ok (by_crew c ask at)
-      → IsInOrder other → mine c (room_by before room) ≡ mine c other
+      → IsInOrder other → AgreeOn (Crew c) ask (room_by before room) other
       → HasAnswer x (answer_to (by_crew c ask at) other)
       × (mine c (room_by (before ++ x ∷ []) room) ≡ mine c (room_after (by_crew c ask at) other))
-  crew before rest x c ask at other split is in_order same =
+  crew before rest x c ask at other split is in_order agree =
       let order = (formed_at before (x ∷ rest) split).order in (
-        subst (HasAnswer x) (ap answer_of (mine_answer c ask at (room_by before room) other order in_order same))
+        subst (HasAnswer x)
+            (ap answer_of (crew_alike c (room_by before room) other order in_order ask at agree))
             (answer_in before rest x (Ok (by_crew c ask at)) split is),
         ap (mine c) (room_on before x (Ok (by_crew c ask at)) is)
-            ∙ mine_equal c ask at (room_by before room) other order in_order same,
+            ∙ mine_equal c ask at (room_by before room) other order in_order
+            (agreed_rows c (room_by before room) other ask agree),
       )
 
   -- what is only answered when it comes again is answered so, and changes nothing

@@ -30,7 +30,7 @@ use Rattle.room_http.specs.ClockMoments.{HasNoMoment}
 use Rattle.room_http.specs.Arrivals.{Arrival, is_closing, is_head_only, Begins, HasNext}
 use Rattle.room_http.specs.declared.settings.HttpSettings.{HttpSettings}
 use Rattle.room_model.specs.Rooms.{Step}
-use Rattle.room_http.specs.Course.{Course}
+use Rattle.room_http.specs.ServedTrace.{ServedTrace}
 use Rattle.room_http.specs.ConnectionReads.{EndsAs}
 use Rattle.room_http.specs.Session.{Sides, Finish, Answered, Unserved, Unwritten, Broken}
 use Rattle.room_http.specs.Session.{LeavesPart, MissesNone, ServeIs}
@@ -243,7 +243,7 @@ module _ (step : Step) (setting : HttpSettings) (old : Sides) where
         Answers step setting held new.held given new.given new.write_failed new.was_none new.observer_failed late stays
         (Stays is_kept stands leaves) (IsUnserved step setting is_kept stands leaves) failed at o
 
-    abbrev ServeHere : Course → ℕ → ServeEnd → Type 0
+    abbrev ServeHere : ServedTrace → ℕ → ServeEnd → Type 0
     ServeHere =
         ServeIs step setting old new late stood (Stays was stands leaves) (IsUnserved step setting was stands leaves)
         failed

@@ -20,7 +20,7 @@ use Rattle.room_http_messages.specs.Messages.{IsCut}
 use Rattle.room_http.specs.ReplyMessages.{fixed_bytes}
 use Rattle.room_http.specs.ArrivalAnswers.{Answers}
 use Rattle.room_http.specs.Arrivals.{Arrival, Begins, HasNext, is_head_only}
-use Rattle.room_http.specs.Course.{AreFirstIn, Course, OneCourse}
+use Rattle.room_http.specs.ServedTrace.{AreFirstIn, ServedTrace, OneTrace}
 use Rattle.room_http.specs.ServedRuns.{AreFirst, AreGiven, AreWritten, IsAtMost, IsUnservedTail}
 use Rattle.room_http.specs.ServedRuns.{KeepsPromises, Served}
 use Rattle.room_http.specs.Runs.{Exchange, HasAnswer, IsRun, arrivals_of, room_by}
@@ -268,7 +268,7 @@ no_moment given gives was_none outs (inr late) = (late.0 ∷ [], late.2)
 module _ (setting : HttpSettings) (old : Sides) (new : Finish) (was_kept trusted has_failed : Type 0)
     (stood stands : List Terminal → Room → Type 0) (leaves : List Terminal → List Room → Type 0)
     (fit : (terminals : List Terminal) (room : Room) → stood terminals room → AreTerminals room terminals)
-    (course : Course) where
+    (course : ServedTrace) where
   abbrev AreFirstHere : List Timed → Type 0
   AreFirstHere = AreFirstIn course old.left old.given new.given
 
@@ -377,9 +377,9 @@ module _ (setting : HttpSettings) (old : Sides) (new : Finish) (was_kept trusted
   promised step budget end is same = kept budget end (subst (λ (s : Step). ServeHere s budget end) same is)
 
   -- with what an observer kept of the same course
-  pub one_course : (keeps : Course → Type 0) (step : Step) (budget : ℕ) (end : ServeEnd)
+  pub one_course : (keeps : ServedTrace → Type 0) (step : Step) (budget : ℕ) (end : ServeEnd)
       → ServeHere step budget end → keeps course
-      → OneCourse
+      → OneTrace
       (λ c. ServeIs step setting old new trusted stood StaysHere
       (IsUnserved step setting was_kept stands leaves) has_failed c budget end)
       (λ c. step ≡ machine → KeepsPromises setting (AreFirstIn c old.left old.given new.given) old.held

@@ -6,12 +6,14 @@ use Rattle.serde_json.specs.Written.{compact_text}
 use Rattle.room_place.specs.declared.places.Place.{Place}
 use Rattle.room_types.specs.Codes.{button_name, kind_number, merged_into, outcome_name}
 use Rattle.room_types.specs.Codes.{state_number, status_number}
+use Rattle.room_types.specs.Ranks.{rank_number}
 use Rattle.room_types.specs.RefusalStatuses.{refusal_name, refusal_number}
 use Rattle.room_types.specs.declared.answers.Answer.{Answer}
 use Rattle.room_types.specs.declared.answers.Answer.TheVariants as answer
 use Rattle.room_types.specs.declared.answers.QueueEntry.{QueueEntry}
 use Rattle.room_types.specs.declared.answers.History.{History}
 use Rattle.room_types.specs.declared.answers.IncidentLine.{IncidentLine}
+use Rattle.room_types.specs.declared.answers.Job.{Job}
 use Rattle.room_types.specs.declared.answers.PointLine.{PointLine}
 use Rattle.room_types.specs.declared.answers.Proposal.{Proposal}
 use Rattle.room_types.specs.declared.answers.Served.{Served}
@@ -82,7 +84,7 @@ abbrev pub entry_json : QueueEntry → Data
 entry_json e =
     object_of (
     (codes "number", whole e.number)
-    ∷ (codes "rank", whole e.rank)
+    ∷ (codes "rank", whole (rank_number e.rank))
     ∷ (codes "since", whole e.since)
     ∷ (codes "vehicle", string (callsign_or_empty e.callsign))
     ∷ [])
@@ -144,6 +146,17 @@ assignment_json a =
     ∷ (codes "incident", whole a.incident)
     ∷ (codes "order", whole a.order)
     ∷ (codes "place", place_json a.place)
+    ∷ [])
+
+-- an order with its incident's class and the notes of its calls
+abbrev pub job_json : Job → Data
+job_json j =
+    object_of (
+    (codes "class", whole j.class)
+    ∷ (codes "notes", list_of string j.notes)
+    ∷ (codes "order", assignment_json j.order)
+    ∷ (codes "post", or_null whole j.post)
+    ∷ (codes "status", whole (status_number j.status))
     ∷ [])
 
 -- a call, with the incident that it was given: another than it belongs to, where that was merged
@@ -233,6 +246,7 @@ answer_json (answer.Times times) = times_json times
 answer_json (answer.Order assignment post status) =
     object_of ((codes "order", or_null assignment_json assignment)
     ∷ (codes "post", or_null whole post) ∷ (codes "status", whole (status_number status)) ∷ [])
+answer_json (answer.Job job) = job_json job
 answer_json (answer.Reported report outcome status) =
     object_of ((codes "number", whole report) ∷ (codes "outcome", string (outcome_name outcome))
     ∷ (codes "status", whole (status_number status)) ∷ [])

@@ -10,12 +10,13 @@ use Rattle.room_http.specs.Dialogues.{Finds, IsReplyTo, Timed, replied}
 use Rattle.room_http.specs.declared.settings.HttpSettings.{HttpSettings}
 use Rattle.room_model.specs.Digests.{DigitsOf, IsHeadOf, IsMiss}
 use Rattle.room_model.specs.Rooms.{Step}
-use Rattle.room_model.specs.declared.digests.Head.{Head}
-use Rattle.room_model.specs.declared.digests.Miss.{Miss}
-use Rattle.room_model.specs.declared.digests.Miss.TheVariants.{OtherDigest}
+use Rattle.room_model.specs.declared.digests.StartDigest.{StartDigest}
+use Rattle.room_model.specs.declared.digests.DigestMismatch.{DigestMismatch}
+use Rattle.room_model.specs.declared.digests.DigestMismatch.TheVariants.{OtherDigest}
 
 -- after this arrival the room would have another digest than that of this head
-abbrev pub LeadsToAnother : Step → HttpSettings → DigitsOf → List Terminal → Room → Timed → Head → Type 0
+abbrev pub LeadsToAnother : Step → HttpSettings → DigitsOf → List Terminal → Room → Timed
+    → StartDigest → Type 0
 LeadsToAnother step setting digits_of terminals room x head =
     (found : Result Event Refusal) × Finds setting terminals x found
     × (¬ (IsHeadOf digits_of head terminals (replied step found room).0))
@@ -26,8 +27,8 @@ LeadsToAnother step setting digits_of terminals room x head =
 -- fails.
 pub record RepliesTowards {M A : Type 0} (step : Step) (digits_of : DigitsOf)
     (is_trusted is_kept : M → Type 0) (stands : M → List Terminal → Room → Type 0) (old new : M)
-    (setting : HttpSettings) (request : Arrived) (at : ℕ) (head : Head)
-    (result : Result (Vec ℕ A) Miss) : Type 0 where
+    (setting : HttpSettings) (request : Arrived) (at : ℕ) (head : StartDigest)
+    (result : Result (Vec ℕ A) DigestMismatch) : Type 0 where
   pub trusted : is_trusted new → is_trusted old
   pub unavailable : IfErr result IsMiss
   pub says : is_trusted new → (terminals : List Terminal) (room : Room) → stands old terminals room

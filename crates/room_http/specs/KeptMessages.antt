@@ -16,7 +16,7 @@ use Rattle.room_http.specs.declared.session.ServeEnd.{ServeEnd}
 use Rattle.room_http.specs.declared.session.ServeEnd.TheVariants.{ClockFault, JournalFailed}
 use Rattle.room_http.specs.Arrivals.{Arrival, Begins, HasNext, IsJustMessage, is_head_only, message}
 use Rattle.room_http.specs.Arrivals.{refused}
-use Rattle.room_http.specs.Course.{Course}
+use Rattle.room_http.specs.ServedTrace.{ServedTrace}
 use Rattle.room_http.specs.Dialogues.{IsFront, IsReplyTo, Timed}
 
 -- the observer keeps all these bytes more, or could keep some of the first of them
@@ -169,7 +169,8 @@ module _ (came : ℕ → List ℕ → List ℕ) (response : List ℕ → List �
   -- still is: the arrivals of the course were answered, each after its record was kept, and no more
   -- was done; or of the last one so much.
   pub record KeepsEach (lasts : Type 0) (moved : List Timed → List (List ℕ) → Type 0)
-      (left : Option (List ℕ)) (old new : Tapes) (end : ServeEnd) (course : Course) : Type 0 where
+      (left : Option (List ℕ)) (old new : Tapes) (end : ServeEnd) (course : ServedTrace)
+      : Type 0 where
     pub text : List ℕ
     pub kept : AreKept course.outs course.answers text
     pub ends : ((course.last ≡ None) × lasts × moved course.outs course.answers

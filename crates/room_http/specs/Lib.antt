@@ -14,7 +14,7 @@ pub mod Runs
 pub mod QueueTexts
 pub mod Promises
 pub mod ServedRuns
-pub mod Course
+pub mod ServedTrace
 pub mod Laws
 pub mod KeptMessages
 pub mod ArrivalAnswers

@@ -11,6 +11,7 @@ use Rattle.room_types.specs.declared.asks.Ask.TheVariants.{Call, Order, Queue, R
 use Rattle.room_types.specs.declared.asks.CallForm.{CallForm}
 use Rattle.room_types.specs.declared.asks.Event.{Event}
 use Rattle.room_types.specs.declared.asks.Press.{Press}
+use Rattle.room_types.specs.declared.asks.Who.TheVariants.{Crew}
 use Rattle.room_types.specs.declared.fleet.Terminal.{Terminal}
 use Rattle.room_types.specs.declared.refusal_statuses.Refusal.{Refusal}
 use Rattle.room_types.specs.declared.refusal_statuses.Refusal.TheVariants.{OutsideArea}
@@ -25,7 +26,7 @@ use Rattle.room_model.specs.Events.{is_everyday, received}
 use Rattle.room_model.specs.Queries.{kept_call}
 use Rattle.room_model.specs.Room.{IsInOrder, Room}
 use Rattle.room_model.specs.Run.{desk_answers}
-use Rattle.room_model.specs.Shares.{mine, own}
+use Rattle.room_model.specs.Shares.{AgreeOn, mine, own}
 use Rattle.room_model.specs.Step.{answer_to, room_after}
 use Rattle.room_model.specs.RoomAgreements.{IsWellFormed}
 use Rattle.room_laws.specs.Exceptions.{Concern, IsDue, IsEnded, IsShown, LooksEvery, looks}
@@ -133,11 +134,12 @@ pub record Promises (terminals : List Terminal) (xs : List Exchange) (room : Roo
   -- holds, and nothing else
   pub desk_by_itself : (d : ℕ) → IsUnlent room → NobodyLends (events_of xs) room
       → list_all is_everyday (crossings d (events_of xs) room) ≡ true
-  -- a crew is answered by its vehicle's rows, and these afterwards are made of them
+  -- a crew is answered by its vehicle's rows, and where it asks for its job by its incident's too;
+  -- the vehicle's rows afterwards are made of them
   pub crew_alike : (before rest : List Exchange) (x : Exchange) (c : Callsign) (ask : Ask) (at : ℕ)
       (other : Room)
       → xs ≡ before ++ x ∷ rest → x.found ≡ Ok (by_crew c ask at) → IsInOrder other
-      → mine c (room_by before room) ≡ mine c other
+      → AgreeOn (Crew c) ask (room_by before room) other
       → HasAnswer x (answer_to (by_crew c ask at) other)
       × (mine c (room_by (before ++ x ∷ []) room) ≡ mine c (room_after (by_crew c ask at) other))
   -- what is refused before it reaches the room is answered so in every room, and changes nothing

@@ -17,7 +17,7 @@ use Rattle.room_model.specs.Rooms.{Step}
 use Rattle.room_http.specs.Arrivals.{Arrival, is_head_only, is_closing, Begins, HasNext}
 use Rattle.room_http.specs.declared.settings.HttpSettings.{HttpSettings}
 use Rattle.room_http.specs.ClockMoments.{HasNoMoment}
-use Rattle.room_http.specs.Course.{Course}
+use Rattle.room_http.specs.ServedTrace.{ServedTrace}
 use Rattle.room_http.specs.Dialogues.{Timed, IsCaused, IsFront, BreaksOff, WritesDialogue}
 
 -- what is known of a connection: the bytes to come, the reads made, the bytes written, and the
@@ -115,7 +115,7 @@ module _ (step : Step) (setting : HttpSettings) (old : Sides) (new : Finish) (tr
           × so_much tail (fixed_bytes refusal (is_head_only x.0)))
 
     -- of this course
-    module _ (course : Course) where
+    module _ (course : ServedTrace) where
       -- all that had a moment was answered wholly
       abbrev pub IsWhole : (List ℕ → Type 0) → Type 0
       IsWhole follows = (course.last ≡ None) × Answered course.outs follows

@@ -3,14 +3,16 @@ ghost use Rattle.std.specs.Prelude.{◌≡◌, IfOk};
 ghost use Rattle.room_http.specs.Objects.{Sends};
 ghost use Rattle.room_http.specs.AnswerJson.{answer_json, assignment_json, call_json};
 ghost use Rattle.room_http.specs.AnswerJson.{callsign_or_empty, content, entry_json, history_json};
-ghost use Rattle.room_http.specs.AnswerJson.{incident_json, json_of, loan_json, offer_json};
+ghost use Rattle.room_http.specs.AnswerJson.{incident_json, job_json, json_of, loan_json};
+ghost use Rattle.room_http.specs.AnswerJson.{offer_json};
 ghost use Rattle.room_http.specs.AnswerJson.{point_json, proposal_json, refusal_json, report_json};
 ghost use Rattle.room_http.specs.AnswerJson.{times_json, times_line_json, turn_json, vehicle_json};
 
 use crate::json_values::ToJson;
 use crate::objects::{End, Member, write_object};
 use room_types::answers::{
-    Answer, History, IncidentLine, PointLine, Proposal, QueueEntry, Times, TimesLine, VehicleLine,
+    Answer, History, IncidentLine, Job, PointLine, Proposal, QueueEntry, Times, TimesLine,
+    VehicleLine,
 };
 use room_types::callsign::Callsign;
 use room_types::refusal_statuses::Refusal;
@@ -62,6 +64,7 @@ impl ToJson for Answer {
                     "status": status,
                 })
             }
+            Answer::Job(job) => job.write_json(out),
             Answer::Reported(number, outcome, status) => {
                 object!(out, {
                     "number": number,
@@ -235,6 +238,20 @@ impl ToJson for Assignment {
             "incident": &self.incident,
             "order": &self.order,
             "place": &self.place,
+        })
+    }
+}
+
+impl ToJson for Job {
+    ghost json = { job_json };
+
+    fn write_json<S: Serializer>(&self, out: &mut S) -> Result<(), S::Error> {
+        object!(out, {
+            "class": &self.class,
+            "notes": &self.notes,
+            "order": &self.order,
+            "post": &self.post,
+            "status": &self.status,
         })
     }
 }

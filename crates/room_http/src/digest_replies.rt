@@ -7,7 +7,7 @@ use crate::arrivals::Arrived;
 use crate::handlers::Handler;
 use crate::message_events::event_of;
 use crate::reply_messages::render;
-use room_model::digests::{Digested, Head, Miss};
+use room_model::digests::{DigestMismatch, Digested, StartDigest};
 use room_types::numbers::Moment;
 use room_types::refusal_statuses::Refusal;
 
@@ -19,8 +19,8 @@ pub fn reply_towards<M: Digested>(
     room: &mut M,
     arrived: &Arrived,
     at: Moment,
-    head: &Head,
-) -> Result<Vec<u8>, Miss>
+    head: &StartDigest,
+) -> Result<Vec<u8>, DigestMismatch>
     requires { M.is_ready room.old }
     ensures ready { M.is_ready room.new }
     ensures zone { M.zone room.new ≡ M.zone room.old }
@@ -30,15 +30,15 @@ pub fn reply_towards<M: Digested>(
     let (head_only, closing) = (arrived.head_only(), arrived.is_closing());
     let message = match arrived {
         Arrived::Message { message, .. } => message,
-        Arrived::Refused { .. } => return Err(Miss::OtherDigest),
+        Arrived::Refused { .. } => return Err(DigestMismatch::OtherDigest),
     };
     let mut asker = None;
     match event_of(handler, room, message, at, &mut asker) {
         Ok(event) => room.act_towards(handler.alloc, &event, head, |answer| {
             render(handler.alloc, answer, at, head_only, closing)
         }),
-        Err(Refusal::Memory) => Err(Miss::Unavailable(Refusal::Memory)),
-        Err(Refusal::Storage) => Err(Miss::Unavailable(Refusal::Storage)),
-        Err(_) => Err(Miss::OtherDigest),
+        Err(Refusal::Memory) => Err(DigestMismatch::Unavailable(Refusal::Memory)),
+        Err(Refusal::Storage) => Err(DigestMismatch::Unavailable(Refusal::Storage)),
+        Err(_) => Err(DigestMismatch::OtherDigest),
     }
 }

@@ -8,6 +8,7 @@ ghost use Rattle.room_http.specs.JsonShapes.{whole, or_null, list_of};
 ghost use Rattle.room_http.specs.Objects.{Sends};
 ghost use Rattle.room_http.specs.AnswerJson.{counts_json, place_json, served_json};
 ghost use Rattle.room_types.specs.Codes.{button_name, kind_number, outcome_name, status_number};
+ghost use Rattle.room_types.specs.Ranks.{rank_number};
 
 use room_place::bounded_numbers::Bounded;
 use room_place::places::Place;
@@ -16,6 +17,7 @@ use room_types::callsign::Callsign;
 use room_types::codes::{Button, Kind, Outcome, Status};
 use room_types::needs::{Counts, Needs};
 use room_types::note::Note;
+use room_types::ranks::Rank;
 use serde::Serializer;
 
 /// What an answer can say. The types are of other crates, as serde's `Serialize` is.
@@ -125,6 +127,14 @@ impl ToJson for Kind {
 
 impl ToJson for Status {
     ghost json = { λ status. whole (status_number status) };
+
+    fn write_json<S: Serializer>(&self, out: &mut S) -> Result<(), S::Error> {
+        out.u64(u64::from(self.number()))
+    }
+}
+
+impl ToJson for Rank {
+    ghost json = { λ rank. whole (rank_number rank) };
 
     fn write_json<S: Serializer>(&self, out: &mut S) -> Result<(), S::Error> {
         out.u64(u64::from(self.number()))

@@ -6,7 +6,7 @@ ghost use Rattle.room_http.specs.Arrivals.{Arrival, IsShown};
 ghost use Rattle.room_http.specs.declared.session.ServeEnd.TheVariants as endings;
 ghost use Rattle.room_http.specs.KeptMessages.{ActsOnEach, KeepsEach};
 ghost use Rattle.room_http.specs.ConnectionReads.{EndsAs, IsReadAs};
-ghost use Rattle.room_http.specs.Course.{AreFirstIn, OneCourse};
+ghost use Rattle.room_http.specs.ServedTrace.{AreFirstIn, OneTrace};
 ghost use Rattle.room_http.specs.ServedRuns.{KeepsPromises};
 ghost use Rattle.room_http.specs.Session.{MissesNone, ReadsAtMost, ServeIs};
 ghost use Rattle.room_http.specs.Dialogues.{IsUnserved, Stays};
@@ -74,7 +74,7 @@ pub fn serve<R: Source, W: Sink, M: Room, C: Clock, N: Observer>(
     ensures reads { ReadsAtMost budget (R.reads connection.old.reader)
         (R.reads connection.new.reader) }
     ensures trusted { M.is_trusted room.new → M.is_trusted room.old }
-    ensures run { OneCourse
+    ensures run { OneTrace
         (λ course. ServeIs M.step handler.now.setting
         (record {
           left = R.left connection.old.reader;

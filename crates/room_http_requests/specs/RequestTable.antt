@@ -55,6 +55,7 @@ pattern_of path.Loans = codes "/loans"
 pattern_of path.Offers = codes "/offers"
 pattern_of path.Times = codes "/times/{day}"
 pattern_of path.Order = codes "/order"
+pattern_of path.Job = codes "/job"
 pattern_of path.Report = codes "/report"
 pattern_of path.Last = codes "/last"
 
@@ -71,6 +72,7 @@ allow_of path.Loans = GetHead
 allow_of path.Offers = GetHead
 allow_of path.Times = GetHead
 allow_of path.Order = GetHead
+allow_of path.Job = GetHead
 allow_of path.Last = GetHead
 allow_of other = Post
 
@@ -78,6 +80,7 @@ allow_of other = Post
 abbrev pub is_of_history : Path → Bool
 is_of_history path.Incident = true
 is_of_history path.Reports = true
+is_of_history path.Job = true
 is_of_history path.Last = true
 is_of_history other = false
 
@@ -111,6 +114,7 @@ path_of target.Loans = path.Loans
 path_of target.Offers = path.Offers
 path_of (target.Times day) = path.Times
 path_of target.Order = path.Order
+path_of target.Job = path.Job
 path_of target.Report = path.Report
 path_of target.Last = path.Last
 
@@ -150,6 +154,7 @@ named_by path.Loans text = Some target.Loans
 named_by path.Offers text = Some target.Offers
 named_by path.Times text = option_map target.Times (day_of (segment_at 2 text))
 named_by path.Order text = Some target.Order
+named_by path.Job text = Some target.Job
 named_by path.Report text = Some target.Report
 named_by path.Last text = Some target.Last
 
@@ -166,11 +171,12 @@ members_of (target.Merge number) = 1
 members_of (target.Standby callsign) = 1
 members_of other = 0
 
--- calls are a position's, orders and reports a crew's, the last numbers are of who numbers what it
--- sends, all else is a desk's
+-- calls are a position's, orders, jobs and reports a crew's, the last numbers are of who numbers
+-- what it sends, all else is a desk's
 abbrev pub role_of : Target → Role
 role_of target.Call = Position
 role_of target.Order = Crew
+role_of target.Job = Crew
 role_of target.Report = Crew
 role_of target.Last = Sender
 role_of other = Desk
@@ -203,6 +209,7 @@ ask_without_body target.Loans = Some (request.Ask ask.Loans)
 ask_without_body target.Offers = Some (request.Ask ask.Offers)
 ask_without_body (target.Times day) = Some (request.Times day)
 ask_without_body target.Order = Some (request.Ask ask.Order)
+ask_without_body target.Job = Some (request.Ask ask.Job)
 ask_without_body target.Last = Some (request.Ask ask.Last)
 ask_without_body other = None
 

@@ -78,6 +78,7 @@ other_names =
     (codes "/offers", target.Offers) ∷
     (codes "/times/2024-02-29", target.Times (date 2024 2 29)) ∷
     (codes "/order", target.Order) ∷
+    (codes "/job", target.Job) ∷
     (codes "/report", target.Report) ∷
     (codes "/last", target.Last) ∷
     (codes "/points/1", target.SetPoint 1) ∷
@@ -173,6 +174,7 @@ requests =
     ((codes "BREW", codes "/points/100"), Err NoPath) ∷
     ((codes "GET", codes "/incidents/1"), Err NoPath) ∷
     ((codes "GET", codes "/vehicles/A1/reports"), Err NoPath) ∷
+    ((codes "GET", codes "/job"), Err NoPath) ∷
     ((codes "POST", codes "/last"), Err NoPath) ∷
     []
 
@@ -182,6 +184,8 @@ history_requests =
     ((codes "GET", codes "/incidents/1"), Ok (target.Incident 1)) ∷
     ((codes "GET", codes "/vehicles/A1/reports"), Ok (target.Reports (codes "A1"))) ∷
     ((codes "POST", codes "/vehicles/A1/reports"), Err (WrongMethod GetHead)) ∷
+    ((codes "GET", codes "/job"), Ok target.Job) ∷
+    ((codes "POST", codes "/job"), Err (WrongMethod GetHead)) ∷
     ((codes "HEAD", codes "/last"), Ok target.Last) ∷
     ((codes "POST", codes "/last"), Err (WrongMethod GetHead)) ∷
     ((codes "GET", codes "/incidents/0"), Err NoPath) ∷

@@ -46,12 +46,13 @@ pub enum Path {
     Offers,
     Times,
     Order,
+    Job,
     Report,
     Last,
 }
 
 /// All paths.
-pub const PATHS: [Path; 30] = [
+pub const PATHS: [Path; 31] = [
     Path::Call,
     Path::Incidents,
     Path::Incident,
@@ -80,6 +81,7 @@ pub const PATHS: [Path; 30] = [
     Path::Offers,
     Path::Times,
     Path::Order,
+    Path::Job,
     Path::Report,
     Path::Last,
 ];
@@ -118,6 +120,7 @@ impl Path {
             Path::Offers => "/offers",
             Path::Times => "/times/{day}",
             Path::Order => "/order",
+            Path::Job => "/job",
             Path::Report => "/report",
             Path::Last => "/last",
         }
@@ -139,6 +142,7 @@ impl Path {
             | Path::Offers
             | Path::Times
             | Path::Order
+            | Path::Job
             | Path::Last => Allow::GetHead,
             Path::Call
             | Path::Mobilise
@@ -165,7 +169,10 @@ impl Path {
     pub fn is_of_history(self) -> bool
         ensures { result ≡ is_of_history self }
     {
-        matches!(self, Path::Incident | Path::Reports | Path::Last)
+        matches!(
+            self,
+            Path::Incident | Path::Reports | Path::Job | Path::Last
+        )
     }
 }
 
@@ -200,6 +207,7 @@ pub enum Target {
     Offers,
     Times(Day),
     Order,
+    Job,
     Report,
     Last,
 }
@@ -244,6 +252,7 @@ impl Target {
             Path::Offers => Some(Target::Offers),
             Path::Times => Some(Target::Times(Day::parse(parameter)?)),
             Path::Order => Some(Target::Order),
+            Path::Job => Some(Target::Job),
             Path::Report => Some(Target::Report),
             Path::Last => Some(Target::Last),
         }
@@ -280,7 +289,7 @@ impl Role {
     {
         match target {
             Target::Call => Role::Position,
-            Target::Order | Target::Report => Role::Crew,
+            Target::Order | Target::Job | Target::Report => Role::Crew,
             Target::Last => Role::Sender,
             _ => Role::Desk,
         }
@@ -331,6 +340,7 @@ pub fn ask_of(alloc: Global, target: &Target, body: &[u8]) -> Result<Request, Re
         Target::Offers => Ok(Request::Ask(Ask::Offers)),
         Target::Times(day) => Ok(Request::Times(day)),
         Target::Order => Ok(Request::Ask(Ask::Order)),
+        Target::Job => Ok(Request::Ask(Ask::Job)),
         Target::Last => Ok(Request::Ask(Ask::Last)),
         _ => match ask_with_body(target, &fields_of(alloc, body)?) {
             Some(ask) => Ok(Request::Ask(ask)),

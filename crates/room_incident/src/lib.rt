@@ -4,6 +4,7 @@
 pub mod active_incidents;
 pub mod call_links;
 pub mod calls;
+pub mod crew_jobs;
 pub mod day_times;
 pub mod incident_closing;
 pub mod incident_history;

@@ -68,7 +68,7 @@ use Rattle.room_model.specs.Reports.{report_kept, report_made, report_somewhere,
 use Rattle.room_model.specs.Reports.{turn_after, turn_changes, with_report}
 use Rattle.room_model.specs.Room.{Room}
 use Rattle.room_model.specs.RoomAgreements.{IsGiven, IsWellFormed, LoanAgrees, NumberAgrees}
-use Rattle.room_model.specs.Step.{answer_to, crew_asks, decided, desk_asks, position_asks}
+use Rattle.room_model.specs.Step.{answer_to, decided, desk_asks, position_asks, who_asks}
 use Rattle.room_model.specs.Vehicles.{duty, mobilise, mobilise_held, mobilised, off, off_duty}
 use Rattle.room_model.specs.Vehicles.{on_duty, stand_down, stand_down_held, standby, standby_at}
 use Rattle.room_model.specs.Vehicles.{stands_by, turn_stood_down}
@@ -77,8 +77,8 @@ use Rattle.room_laws.proofs.Effects.{VehicleStep, by_any, by_own, class_left, cl
 use Rattle.room_laws.proofs.Effects.{effects_join, free_still, idle_still, incident_in, is_loan_of}
 use Rattle.room_laws.proofs.Effects.{is_offer_of, no_next, off_still, off_unfree, offered_still}
 use Rattle.room_laws.proofs.Effects.{offered_unfree, posted_free, same_self, turn_at, vehicle_in}
-use Rattle.room_laws.specs.Exceptions.{Concern, OutOfTurn, Overdue, ShiftOver, Slow, Unanswered}
-use Rattle.room_laws.specs.Exceptions.{Uncovered, Unread, Unserved}
+use Rattle.room_laws.specs.Exceptions.{Concern, OutOfTurn, Overdue, ShiftOver, LateForScene}
+use Rattle.room_laws.specs.Exceptions.{Unanswered, Uncovered, Unacknowledged, Unserved}
 
 pub same_found : {X : Type 0} (o : Option X) (x y : X) → o ≡ Some x → o ≡ Some y → x ≡ y
 same_found o x y e f = let both : Some x ≡ Some y = sym e ∙ f in cc
@@ -128,9 +128,9 @@ module _ (Over : ℕ → Concern → Type 0) (r : Room) where
 
   -- what a report's button ends
   record Presses (c : Callsign) (b : Button) (due : Bool) : Type 0 where
-    read : not (same_button b button.Position) ≡ true → (d n : ℕ) → Over d (Unread n c)
+    read : not (same_button b button.Position) ≡ true → (d n : ℕ) → Over d (Unacknowledged n c)
     left : not (same_button b button.Position || same_button b button.Mobile) ≡ true → (d n : ℕ)
-        → Over d (Slow n c)
+        → Over d (LateForScene n c)
     back : is_home b && due ≡ true → (d n : ℕ) → Over d (Overdue n c)
     back_shift : is_home b && due ≡ true → (d : ℕ) → Over d (ShiftOver c)
 
@@ -296,7 +296,7 @@ module _ (r : Room) (w : IsWellFormed r) where
       eqb-true t.division d (left_true (t.division == d) _ f.1)
 
   stood : (Over : ℕ → Concern → Type 0) (d : ℕ) (c : Callsign) (at : ℕ) (o : Option Turn)
-      → ((n : ℕ) → Over d (Unread n c) × Over d (Slow n c))
+      → ((n : ℕ) → Over d (Unacknowledged n c) × Over d (LateForScene n c))
       → open_turn d c r ≡ o → Effects Over r (turn_stood_down at o)
   stood Over d c at None over e = tt
   stood Over d c at (Some t) over e =
@@ -307,11 +307,11 @@ module _ (r : Room) (w : IsWellFormed r) where
             (subst (λ (k : Callsign). turn_at k t.order r ≡ Some t) (sym key) is.0) is.1 (record {
               same = (refl, refl, refl);
               read =
-                  inr (subst (λ (k : Callsign). Over t.division (Unread t.incident k)) (sym key)
-                  (subst (λ (h : ℕ). Over h (Unread t.incident c)) (sym own) (over t.incident).0));
+                  inr (subst (λ (k : Callsign). Over t.division (Unacknowledged t.incident k)) (sym key)
+                  (subst (λ (h : ℕ). Over h (Unacknowledged t.incident c)) (sym own) (over t.incident).0));
               way =
-                  inr (subst (λ (k : Callsign). Over t.division (Slow t.incident k)) (sym key)
-                  (subst (λ (h : ℕ). Over h (Slow t.incident c)) (sym own) (over t.incident).1));
+                  inr (subst (λ (k : Callsign). Over t.division (LateForScene t.incident k)) (sym key)
+                  (subst (λ (h : ℕ). Over h (LateForScene t.incident c)) (sym own) (over t.incident).1));
             }),
         tt,
       )
@@ -324,15 +324,17 @@ module _ (r : Room) (w : IsWellFormed r) where
       effects_join _ r (turn_stood_down at (open_turn d c r))
       (DropAssignment v.callsign ∷ PutVehicle (record v { status = Returning }) ∷ [])
       (stood _ d c at (open_turn d c r) (λ n. (
-        by_own d d (ask.StandDown c) (Unread n c) refl (same_self c c refl),
-        by_own d d (ask.StandDown c) (Slow n c) refl (same_self c c refl),
+        by_own d d (ask.StandDown c) (Unacknowledged n c) refl (same_self c c refl),
+        by_own d d (ask.StandDown c) (LateForScene n c) refl (same_self c c refl),
       )) refl) (
         tt,
         (
           driven _ r v _ is.there (record {
             way = λ m. inr (λ n. (
-              by_own d v.holder (ask.StandDown c) (Unread n v.callsign) (sym is.holder) (same_self c v.callsign is.key),
-              by_own d v.holder (ask.StandDown c) (Slow n v.callsign) (sym is.holder) (same_self c v.callsign is.key),
+              by_own d v.holder (ask.StandDown c) (Unacknowledged n v.callsign) (sym is.holder)
+                  (same_self c v.callsign is.key),
+              by_own d v.holder (ask.StandDown c) (LateForScene n v.callsign) (sym is.holder)
+                  (same_self c v.callsign is.key),
             ));
             duty = λ o. inl (refl, refl, refl);
             post = λ n h. inl (h, refl, refl);
@@ -774,10 +776,11 @@ module _ (r : Room) (w : IsWellFormed r) where
   report_keeps c p at (Some k) e = refuse (by_crew c (ask.Report p) at) _ _ _ (λ same. tt)
   report_keeps c p at None e = report_places c p at e (vehicle_at c r)
 
-  crew_effects : (c : Callsign) (a : Ask) (at : ℕ) → Holds (by_crew c a at) (crew_asks c a at r)
+  crew_effects : (c : Callsign) (a : Ask) (at : ℕ)
+      → Holds (by_crew c a at) (who_asks (Crew c) a at r)
   crew_effects c (ask.Report p) at = report_keeps c p at (kept_report c p.number r) refl
   crew_effects c a at =
-      by_quiet at r (Effects (EndsBy (by_crew c a at) r (answer_of (crew_asks c a at r))) r) (Crew c) a refl tt
+      by_quiet at r (Effects (EndsBy (by_crew c a at) r (answer_of (who_asks (Crew c) a at r))) r) (Crew c) a refl tt
 
 pub event_effects : (e : Event) (r : Room) → IsWellFormed r
     → Effects (EndsBy e r (answer_to e r)) r (changes_of (decided e r))

@@ -32,15 +32,19 @@ use Rattle.room_model.proofs.Tests.{Implies, both_true, left_true, none_of, righ
 use Rattle.room_model.proofs.Tests.{row_key}
 use Rattle.room_model.specs.Moments.{age, scene_limit}
 use Rattle.room_model.specs.Queries.{counts, holders, incident_of, open_turn, served}
-use Rattle.room_model.specs.Queue.{entries, exception, is_unserved, overdue, shift_over, slow}
-use Rattle.room_model.specs.Queue.{slow_incident, slow_turn, unanswered, uncovered, unread}
-use Rattle.room_model.specs.Queue.{unread_turn, unserved}
+use Rattle.room_model.specs.Queue.{entries, exception, is_unserved, overdue, shift_over}
+use Rattle.room_model.specs.Queue.{late_for_scene, late_incident, late_turn, unanswered, uncovered}
+use Rattle.room_model.specs.Queue.{unacknowledged, unacknowledged_turn, unserved}
 use Rattle.room_model.specs.Room.{Room}
 use Rattle.room_model.specs.RoomAgreements.{IsWellFormed}
 use Rattle.room_laws.proofs.AskEffects.{open_own}
 use Rattle.room_laws.proofs.Effects.{incident_in, turn_at, vehicle_in}
-use Rattle.room_laws.specs.Exceptions.{Concern, IsOf, OutOfTurn, Overdue, ShiftOver, Shows, Slow}
-use Rattle.room_laws.specs.Exceptions.{Unanswered, Uncovered, Unread, Unserved, label}
+use Rattle.room_laws.specs.Exceptions.{Concern, IsOf, OutOfTurn, Overdue, ShiftOver, Shows}
+use Rattle.room_laws.specs.Exceptions.{LateForScene, Unanswered, Uncovered, Unacknowledged}
+use Rattle.room_laws.specs.Exceptions.{Unserved, label}
+use Rattle.room_types.specs.Ranks.{is_past, rank_number}
+use Rattle.room_types.specs.declared.ranks.Rank.{Rank}
+use Rattle.room_types.specs.declared.ranks.Rank.TheVariants as rank
 
 -- ---- lists
 pub among_join : {X : Type 0} (xs ys : List X) (y : X) → Among y (xs ++ ys) → Among y xs ⊎ Among y ys
@@ -160,17 +164,18 @@ fewer_pass {X} p q (y ∷ ys) h =
 
 -- ---- what one entry is of is one thing
 abbrev Tag : Type 0
-Tag = ℕ × ℕ × Option Callsign
+Tag = Rank × ℕ × Option Callsign
 
 some_same : (c e : Callsign) → Some c ≡ Some e → c ≡ e
 some_same c e h = cc
 
 pub same_label : (k j : Concern) → label k ≡ label j → k ≡ j
 same_label (Unserved n) (Unserved m) e = ap (λ (t : Tag). Unserved t.1) e
-same_label (Unread n c) (Unread m f) e =
-    let a = ap (λ (t : Tag). t.1) e in let b = some_same c f (ap (λ (t : Tag). t.2) e) in λ i. Unread (a i) (b i)
-same_label (Slow n c) (Slow m f) e =
-    let a = ap (λ (t : Tag). t.1) e in let b = some_same c f (ap (λ (t : Tag). t.2) e) in λ i. Slow (a i) (b i)
+same_label (Unacknowledged n c) (Unacknowledged m f) e =
+    let a = ap (λ (t : Tag). t.1) e in
+    let b = some_same c f (ap (λ (t : Tag). t.2) e) in λ i. Unacknowledged (a i) (b i)
+same_label (LateForScene n c) (LateForScene m f) e =
+    let a = ap (λ (t : Tag). t.1) e in let b = some_same c f (ap (λ (t : Tag). t.2) e) in λ i. LateForScene (a i) (b i)
 same_label (OutOfTurn n c) (OutOfTurn m f) e =
     let a = ap (λ (t : Tag). t.1) e in let b = some_same c f (ap (λ (t : Tag). t.2) e) in λ i. OutOfTurn (a i) (b i)
 same_label (Overdue n c) (Overdue m f) e =
@@ -180,7 +185,8 @@ same_label (ShiftOver c) (ShiftOver f) e =
 same_label (Uncovered n) (Uncovered m) e = ap (λ (t : Tag). Uncovered t.1) e
 same_label (Unanswered n c) (Unanswered m f) e =
     let a = ap (λ (t : Tag). t.1) e in let b = some_same c f (ap (λ (t : Tag). t.2) e) in λ i. Unanswered (a i) (b i)
-same_label k j e = let ranks = ap (λ (t : Tag). t.0) e in absurd (omega (arith, ranks))
+same_label k j e =
+    let ranks = ap (λ (t : Tag). rank_number t.0) e in absurd (omega (arith, ranks))
 
 -- ---- moments
 pub later_age : (a m t s : ℕ) → m ≤ t → nat_lt a (age m s) ≡ true → nat_lt a (age t s) ≡ true
@@ -209,16 +215,16 @@ module _ (d m : ℕ) (r : Room) where
     pub incident : Incident
     pub found : incident_in d n r ≡ Some incident
     pub active : is_active incident.state ≡ true
-    pub late : nat_lt 180 (age m incident.opened) ≡ true
+    pub late : is_past rank.Unserved (age m incident.opened) ≡ true
     pub nobody : (t : Turn) → Among t r.turns → t.division ≡ d → t.incident ≡ n
         → counts t ≡ true → ⊥
 
-  pub record HasUnread (n : ℕ) (c : Callsign) : Type 0 where
+  pub record HasUnacknowledged (n : ℕ) (c : Callsign) : Type 0 where
     pub way : IsOnWay d r n c
     pub unseen : way.turn.acknowledged ≡ None
-    pub late : nat_lt 60 (age m way.turn.ordered) ≡ true
+    pub late : is_past rank.Unacknowledged (age m way.turn.ordered) ≡ true
 
-  pub record HasSlow (n : ℕ) (c : Callsign) : Type 0 where
+  pub record HasLate (n : ℕ) (c : Callsign) : Type 0 where
     pub way : IsOnWay d r n c
     pub incident : Incident
     pub found : incident_in d n r ≡ Some incident
@@ -254,12 +260,12 @@ module _ (d m : ℕ) (r : Room) where
     pub found : row_at callsign_cmp offer_key r.offers c ≡ Some offer
     pub party : owns_offer d offer ≡ true
     pub other : cond (offer.lender == d) offer.borrower offer.lender ≡ n
-    pub late : nat_lt 300 (age m offer.since) ≡ true
+    pub late : is_past rank.Unanswered (age m offer.since) ≡ true
 
   abbrev pub Has : Concern → Type 0
   Has (Unserved n) = HasUnserved n
-  Has (Unread n c) = HasUnread n c
-  Has (Slow n c) = HasSlow n c
+  Has (Unacknowledged n c) = HasUnacknowledged n c
+  Has (LateForScene n c) = HasLate n c
   Has (OutOfTurn n c) = HasReport n c
   Has (Overdue n c) = HasOverdue n c
   Has (ShiftOver c) = HasShiftOver c
@@ -270,7 +276,7 @@ module _ (d m : ℕ) (r : Room) where
   abbrev pub Named : QueueEntry → Type 0
   Named e = (k : Concern) × IsOf k e × Has k
 
-  abbrev tag : QueueEntry → ℕ × ℕ × Option Callsign
+  abbrev tag : QueueEntry → Rank × ℕ × Option Callsign
   tag x = (x.rank, x.number, x.callsign)
 
   module _ (w : IsWellFormed r) where
@@ -345,14 +351,14 @@ module _ (d m : ℕ) (r : Room) where
           for_it = refl;
         }
 
-    unread_of : (v : Vehicle) (e : QueueEntry) → Among v r.vehicles
+    unacknowledged_of : (v : Vehicle) (e : QueueEntry) → Among v r.vehicles
         → v.holder == d && is_mobilised v.status ≡ true → (o : Option Turn)
-        → open_turn d v.callsign r ≡ o → unread_turn m v o ≡ Some e → Named e
+        → open_turn d v.callsign r ≡ o → unacknowledged_turn m v o ≡ Some e → Named e
     unfolding on_way
-    unread_of v e a b None f g = cc
-    unread_of v e a b (Some t) f g =
+    unacknowledged_of v e a b None f g = cc
+    unacknowledged_of v e a b (Some t) f g =
         let c = cond_is _ _ e g in (
-          Unread t.incident v.callsign,
+          Unacknowledged t.incident v.callsign,
           ap tag (sym (some_is _ e c.1)),
           record {
             way = on_way v t a b f;
@@ -361,37 +367,37 @@ module _ (d m : ℕ) (r : Room) where
           },
         )
 
-    from_unread : (e : QueueEntry) → Among e (filter_map (unread d m r) r.vehicles) → Named e
-    from_unread e a =
-        let is = made_of (unread d m r) r.vehicles e a in
+    from_unacknowledged : (e : QueueEntry) → Among e (filter_map (unacknowledged d m r) r.vehicles) → Named e
+    from_unacknowledged e a =
+        let is = made_of (unacknowledged d m r) r.vehicles e a in
         let c = cond_is _ _ e is.2 in
-        unread_of is.0 e is.1 c.0 (open_turn d is.0.callsign r) refl c.1
+        unacknowledged_of is.0 e is.1 c.0 (open_turn d is.0.callsign r) refl c.1
 
-    slow_of : (v : Vehicle) (t : Turn) (e : QueueEntry) → Among v r.vehicles
+    late_of : (v : Vehicle) (t : Turn) (e : QueueEntry) → Among v r.vehicles
         → v.holder == d && is_mobilised v.status ≡ true → open_turn d v.callsign r ≡ Some t
-        → (i : Option Incident) → incident_of d t.incident r ≡ i → slow_incident m v i ≡ Some e
+        → (i : Option Incident) → incident_of d t.incident r ≡ i → late_incident m v i ≡ Some e
         → Named e
     unfolding incident_of
-    slow_of v t e a b f None g h = cc
-    slow_of v t e a b f (Some i) g h =
+    late_of v t e a b f None g h = cc
+    late_of v t e a b f (Some i) g h =
         let c = cond_is _ _ e h in
         let is = incident_there d r w t.incident i g in (
-          Slow t.incident v.callsign,
-          ap tag (sym (some_is _ e c.1)) ∙ ap (λ (n : ℕ). (3, n, Some v.callsign)) (sym is.2),
+          LateForScene t.incident v.callsign,
+          ap tag (sym (some_is _ e c.1)) ∙ ap (λ (n : ℕ). (rank.LateForScene, n, Some v.callsign)) (sym is.2),
           record { way = on_way v t a b f; incident = i; found = g; late = c.0 },
         )
 
-    slow_turn_of : (v : Vehicle) (e : QueueEntry) → Among v r.vehicles
+    late_turn_of : (v : Vehicle) (e : QueueEntry) → Among v r.vehicles
         → v.holder == d && is_mobilised v.status ≡ true → (o : Option Turn)
-        → open_turn d v.callsign r ≡ o → slow_turn d m r v o ≡ Some e → Named e
-    slow_turn_of v e a b None f g = cc
-    slow_turn_of v e a b (Some t) f g = slow_of v t e a b f (incident_of d t.incident r) refl g
+        → open_turn d v.callsign r ≡ o → late_turn d m r v o ≡ Some e → Named e
+    late_turn_of v e a b None f g = cc
+    late_turn_of v e a b (Some t) f g = late_of v t e a b f (incident_of d t.incident r) refl g
 
-    from_slow : (e : QueueEntry) → Among e (filter_map (slow d m r) r.vehicles) → Named e
-    from_slow e a =
-        let is = made_of (slow d m r) r.vehicles e a in
+    from_late : (e : QueueEntry) → Among e (filter_map (late_for_scene d m r) r.vehicles) → Named e
+    from_late e a =
+        let is = made_of (late_for_scene d m r) r.vehicles e a in
         let c = cond_is _ _ e is.2 in
-        slow_turn_of is.0 e is.1 c.0 (open_turn d is.0.callsign r) refl c.1
+        late_turn_of is.0 e is.1 c.0 (open_turn d is.0.callsign r) refl c.1
 
     from_report : (e : QueueEntry) → Among e (filter_map (exception d) r.reports) → Named e
     from_report e a =
@@ -483,10 +489,10 @@ module _ (d m : ℕ) (r : Room) where
     unfolding entries
     named_entry e a = elim (among_join (filter_map (unserved d m r) r.incidents) _ e a) [
       | inl b ↦ from_unserved e b
-      | inr a ↦ elim (among_join (filter_map (unread d m r) r.vehicles) _ e a) [
-        | inl b ↦ from_unread e b
-        | inr a ↦ elim (among_join (filter_map (slow d m r) r.vehicles) _ e a) [
-          | inl b ↦ from_slow e b
+      | inr a ↦ elim (among_join (filter_map (unacknowledged d m r) r.vehicles) _ e a) [
+        | inl b ↦ from_unacknowledged e b
+        | inr a ↦ elim (among_join (filter_map (late_for_scene d m r) r.vehicles) _ e a) [
+          | inl b ↦ from_late e b
           | inr a ↦ elim (among_join (filter_map (exception d) r.reports) _ e a) [
             | inl b ↦ from_report e b
             | inr a ↦ elim (among_join (filter_map (overdue d m) r.loans) _ e a) [
@@ -526,7 +532,7 @@ module _ (d m : ℕ) (r : Room) where
     due_unserved n h =
         let i = h.incident in
         let key = incident_key_of n i h.found in
-        let e : QueueEntry = record { rank = 1; since = i.opened; number = i.number; callsign = None } in
+        let e : QueueEntry = record { rank = rank.Unserved; since = i.opened; number = i.number; callsign = None } in
         let alone : is_unserved d i.number r ≡ true = subst (λ (n : ℕ). is_unserved d n r ≡ true) (sym key.1)
         (both_true _ _ (served_zero n Ambulance h.nobody)
         (both_true _ _ (served_zero n Car h.nobody) (served_zero n Support h.nobody))) in
@@ -538,7 +544,7 @@ module _ (d m : ℕ) (r : Room) where
               (row_there pair_cmp incident_key r.incidents (d, n) i h.found)
               (cond_on _ (Some e) (both_true _ _ (eq-eqb i.division d key.0)
               (both_true _ _ h.active (both_true _ _ alone h.late)))));
-          named = ap (λ (n : ℕ). (1, n, None)) key.1;
+          named = ap (λ (n : ℕ). (rank.Unserved, n, None)) key.1;
         }
 
     open_same : (n : ℕ) (c : Callsign) (h : IsOnWay d r n c) → open_turn d c r ≡ Some h.turn
@@ -561,43 +567,44 @@ module _ (d m : ℕ) (r : Room) where
     named_so : (c : Callsign) (v : Vehicle) → vehicle_in c r ≡ Some v → v.callsign ≡ c
     named_so c v e = sym (row_key callsign_cmp vehicle_key callsigns_total exact_callsigns r.vehicles c v e)
 
-    due_unread : (n : ℕ) (c : Callsign) → HasUnread n c → Shows (Unread n c) (entries d m r)
+    due_unacknowledged : (n : ℕ) (c : Callsign) → HasUnacknowledged n c → Shows (Unacknowledged n c) (entries d m r)
     unfolding entries
-    due_unread n c h =
+    due_unacknowledged n c h =
         let v = h.way.vehicle in
         let t = h.way.turn in
         let key = named_so c v h.way.found in
         let e : QueueEntry = record {
-          rank = 2;
+          rank = rank.Unacknowledged;
           since = t.ordered;
           number = t.incident;
           callsign = Some v.callsign;
         } in
         let found : open_turn d v.callsign r ≡ Some t = ap (λ (k : Callsign). open_turn d k r) key
         ∙ open_same n c h.way in
-        let makes_it : unread d m r v ≡ Some e =
-        cond_on _ _ (both_true _ _ (eq-eqb v.holder d h.way.holder) h.way.mobilised) ∙ (ap (unread_turn m v) found
+        let makes_it : unacknowledged d m r v ≡ Some e =
+        cond_on _ _ (both_true _ _ (eq-eqb v.holder d h.way.holder) h.way.mobilised)
+        ∙ (ap (unacknowledged_turn m v) found
         ∙ cond_on _ (Some e) (both_true _ _ (ap is_none h.unseen) h.late)) in
         record {
           entry = e;
           there =
               among_right (filter_map (unserved d m r) r.incidents) _ e
-              (among_left (filter_map (unread d m r) r.vehicles) _ e
-              (makes (unread d m r) r.vehicles v e
+              (among_left (filter_map (unacknowledged d m r) r.vehicles) _ e
+              (makes (unacknowledged d m r) r.vehicles v e
               (row_there callsign_cmp vehicle_key r.vehicles c v h.way.found) makes_it));
-          named = λ i. (2, h.way.for_it i, Some (key i));
+          named = λ i. (rank.Unacknowledged, h.way.for_it i, Some (key i));
         }
 
-    due_slow : (n : ℕ) (c : Callsign) → HasSlow n c → Shows (Slow n c) (entries d m r)
+    due_late : (n : ℕ) (c : Callsign) → HasLate n c → Shows (LateForScene n c) (entries d m r)
     unfolding entries incident_of
-    due_slow n c h =
+    due_late n c h =
         let v = h.way.vehicle in
         let t = h.way.turn in
         let i = h.incident in
         let key = named_so c v h.way.found in
         let number = incident_key_of n i h.found in
         let e : QueueEntry = record {
-          rank = 3;
+          rank = rank.LateForScene;
           since = i.opened;
           number = i.number;
           callsign = Some v.callsign;
@@ -605,18 +612,18 @@ module _ (d m : ℕ) (r : Room) where
         let found : open_turn d v.callsign r ≡ Some t = ap (λ (k : Callsign). open_turn d k r) key
         ∙ open_same n c h.way in
         let its : incident_of d t.incident r ≡ Some i = ap (λ (n : ℕ). incident_of d n r) h.way.for_it ∙ h.found in
-        let makes_it : slow d m r v ≡ Some e =
-        cond_on _ _ (both_true _ _ (eq-eqb v.holder d h.way.holder) h.way.mobilised) ∙ (ap (slow_turn d m r v) found
-        ∙ (ap (slow_incident m v) its ∙ cond_on _ (Some e) h.late)) in
+        let makes_it : late_for_scene d m r v ≡ Some e =
+        cond_on _ _ (both_true _ _ (eq-eqb v.holder d h.way.holder) h.way.mobilised) ∙ (ap (late_turn d m r v) found
+        ∙ (ap (late_incident m v) its ∙ cond_on _ (Some e) h.late)) in
         record {
           entry = e;
           there =
               among_right (filter_map (unserved d m r) r.incidents) _ e
-              (among_right (filter_map (unread d m r) r.vehicles) _ e
-              (among_left (filter_map (slow d m r) r.vehicles) _ e
-              (makes (slow d m r) r.vehicles v e
+              (among_right (filter_map (unacknowledged d m r) r.vehicles) _ e
+              (among_left (filter_map (late_for_scene d m r) r.vehicles) _ e
+              (makes (late_for_scene d m r) r.vehicles v e
               (row_there callsign_cmp vehicle_key r.vehicles c v h.way.found) makes_it)));
-          named = λ i. (3, number.1 i, Some (key i));
+          named = λ i. (rank.LateForScene, number.1 i, Some (key i));
         }
 
     due_report : (n : ℕ) (c : Callsign) → HasReport n c → Shows (OutOfTurn n c) (entries d m r)
@@ -624,17 +631,18 @@ module _ (d m : ℕ) (r : Room) where
     due_report n c h =
         let x = h.report in
         let key = row_key numbered_cmp report_key numbered_total exact_numbered r.reports (c, n) x h.found in
-        let e : QueueEntry = record { rank = 4; since = x.at; number = x.number; callsign = Some x.callsign } in
+        let e :
+        QueueEntry = record { rank = rank.OutOfTurn; since = x.at; number = x.number; callsign = Some x.callsign } in
         record {
           entry = e;
           there =
               among_right (filter_map (unserved d m r) r.incidents) _ e
-              (among_right (filter_map (unread d m r) r.vehicles) _ e
-              (among_right (filter_map (slow d m r) r.vehicles) _ e
+              (among_right (filter_map (unacknowledged d m r) r.vehicles) _ e
+              (among_right (filter_map (late_for_scene d m r) r.vehicles) _ e
               (among_left (filter_map (exception d) r.reports) _ e
               (makes (exception d) r.reports x e (row_there numbered_cmp report_key r.reports (c, n) x h.found)
               (cond_on _ (Some e) (both_true _ _ (eq-eqb x.division d h.own) h.unended))))));
-          named = ap (λ (k : Callsign × ℕ). (4, k.1, Some k.0)) (sym key);
+          named = ap (λ (k : Callsign × ℕ). (rank.OutOfTurn, k.1, Some k.0)) (sym key);
         }
 
     due_overdue : (n : ℕ) (c : Callsign) → HasOverdue n c → Shows (Overdue n c) (entries d m r)
@@ -643,7 +651,7 @@ module _ (d m : ℕ) (r : Room) where
         let l = h.loan in
         let key = row_key callsign_cmp loan_key callsigns_total exact_callsigns r.loans c l h.found in
         let e : QueueEntry = record {
-          rank = 5;
+          rank = rank.Overdue;
           since = l.until;
           number = cond (l.lender == d) l.borrower l.lender;
           callsign = Some l.callsign;
@@ -652,13 +660,13 @@ module _ (d m : ℕ) (r : Room) where
           entry = e;
           there =
               among_right (filter_map (unserved d m r) r.incidents) _ e
-              (among_right (filter_map (unread d m r) r.vehicles) _ e
-              (among_right (filter_map (slow d m r) r.vehicles) _ e
+              (among_right (filter_map (unacknowledged d m r) r.vehicles) _ e
+              (among_right (filter_map (late_for_scene d m r) r.vehicles) _ e
               (among_right (filter_map (exception d) r.reports) _ e
               (among_left (filter_map (overdue d m) r.loans) _ e
               (makes (overdue d m) r.loans l e (row_there callsign_cmp loan_key r.loans c l h.found)
               (cond_on _ (Some e) (both_true _ _ h.party h.late)))))));
-          named = λ i. (5, h.other i, Some (sym key i));
+          named = λ i. (rank.Overdue, h.other i, Some (sym key i));
         }
 
     due_shift : (c : Callsign) → HasShiftOver c → Shows (ShiftOver c) (entries d m r)
@@ -666,20 +674,21 @@ module _ (d m : ℕ) (r : Room) where
     due_shift c h =
         let v = h.vehicle in
         let key = named_so c v h.found in
-        let e : QueueEntry = record { rank = 6; since = v.shift_end; number = 0; callsign = Some v.callsign } in
+        let e :
+        QueueEntry = record { rank = rank.ShiftOver; since = v.shift_end; number = 0; callsign = Some v.callsign } in
         record {
           entry = e;
           there =
               among_right (filter_map (unserved d m r) r.incidents) _ e
-              (among_right (filter_map (unread d m r) r.vehicles) _ e
-              (among_right (filter_map (slow d m r) r.vehicles) _ e
+              (among_right (filter_map (unacknowledged d m r) r.vehicles) _ e
+              (among_right (filter_map (late_for_scene d m r) r.vehicles) _ e
               (among_right (filter_map (exception d) r.reports) _ e
               (among_right (filter_map (overdue d m) r.loans) _ e
               (among_left (filter_map (shift_over d m) r.vehicles) _ e
               (makes (shift_over d m) r.vehicles v e (row_there callsign_cmp vehicle_key r.vehicles c v h.found)
               (cond_on _ (Some e) (both_true _ _ (eq-eqb v.holder d h.holder)
               (both_true _ _ (ap not h.on) h.late)))))))));
-          named = λ i. (6, 0, Some (key i));
+          named = λ i. (rank.ShiftOver, 0, Some (key i));
         }
 
     due_uncovered : (n : ℕ) → HasUncovered n → Shows (Uncovered n) (entries d m r)
@@ -688,13 +697,13 @@ module _ (d m : ℕ) (r : Room) where
         let p = h.point in
         let key = row_key pair_cmp point_key pairs_total exact_pair r.points (d, n) p h.found in
         let number : p.number ≡ n = sym (ap (λ (k : ℕ × ℕ). k.1) key) in
-        let e : QueueEntry = record { rank = 7; since = 0; number = p.number; callsign = None } in
+        let e : QueueEntry = record { rank = rank.Uncovered; since = 0; number = p.number; callsign = None } in
         record {
           entry = e;
           there =
               among_right (filter_map (unserved d m r) r.incidents) _ e
-              (among_right (filter_map (unread d m r) r.vehicles) _ e
-              (among_right (filter_map (slow d m r) r.vehicles) _ e
+              (among_right (filter_map (unacknowledged d m r) r.vehicles) _ e
+              (among_right (filter_map (late_for_scene d m r) r.vehicles) _ e
               (among_right (filter_map (exception d) r.reports) _ e
               (among_right (filter_map (overdue d m) r.loans) _ e
               (among_right (filter_map (shift_over d m) r.vehicles) _ e
@@ -703,7 +712,7 @@ module _ (d m : ℕ) (r : Room) where
               (cond_on _ (Some e) (both_true _ _
               (eq-eqb p.division d (sym (ap (λ (k : ℕ × ℕ). k.0) key)))
               (subst (λ (k : ℕ). nat_lt (length (holders d k m r)) p.cover ≡ true) (sym number) h.short))))))))));
-          named = ap (λ (n : ℕ). (7, n, None)) number;
+          named = ap (λ (n : ℕ). (rank.Uncovered, n, None)) number;
         }
 
     due_unanswered : (n : ℕ) (c : Callsign) → HasUnanswered n c → Shows (Unanswered n c) (entries d m r)
@@ -712,7 +721,7 @@ module _ (d m : ℕ) (r : Room) where
         let o = h.offer in
         let key = row_key callsign_cmp offer_key callsigns_total exact_callsigns r.offers c o h.found in
         let e : QueueEntry = record {
-          rank = 8;
+          rank = rank.Unanswered;
           since = o.since;
           number = cond (o.lender == d) o.borrower o.lender;
           callsign = Some o.callsign;
@@ -721,21 +730,21 @@ module _ (d m : ℕ) (r : Room) where
           entry = e;
           there =
               among_right (filter_map (unserved d m r) r.incidents) _ e
-              (among_right (filter_map (unread d m r) r.vehicles) _ e
-              (among_right (filter_map (slow d m r) r.vehicles) _ e
+              (among_right (filter_map (unacknowledged d m r) r.vehicles) _ e
+              (among_right (filter_map (late_for_scene d m r) r.vehicles) _ e
               (among_right (filter_map (exception d) r.reports) _ e
               (among_right (filter_map (overdue d m) r.loans) _ e
               (among_right (filter_map (shift_over d m) r.vehicles) _ e
               (among_right (filter_map (uncovered d m r) r.points) _ e
               (makes (unanswered d m) r.offers o e (row_there callsign_cmp offer_key r.offers c o h.found)
               (cond_on _ (Some e) (both_true _ _ h.party h.late)))))))));
-          named = λ i. (8, h.other i, Some (sym key i));
+          named = λ i. (rank.Unanswered, h.other i, Some (sym key i));
         }
 
     pub due : (k : Concern) → Has k → Shows k (entries d m r)
     due (Unserved n) h = due_unserved n h
-    due (Unread n c) h = due_unread n c h
-    due (Slow n c) h = due_slow n c h
+    due (Unacknowledged n c) h = due_unacknowledged n c h
+    due (LateForScene n c) h = due_late n c h
     due (OutOfTurn n c) h = due_report n c h
     due (Overdue n c) h = due_overdue n c h
     due (ShiftOver c) h = due_shift c h

@@ -37,9 +37,9 @@ use Rattle.room_model.specs.Queries.{counts, has_post}
 use Rattle.room_model.specs.Room.{Room}
 use Rattle.room_model.specs.RoomAgreements.{IsPost, IsWellFormed, LoanAgrees, OfferAgrees}
 use Rattle.room_model.specs.RoomAgreements.{PostAgrees, TurnAgrees}
-use Rattle.room_laws.specs.Exceptions.{Concern, OutOfTurn, Overdue, ShiftOver, Slow, Unanswered}
-use Rattle.room_laws.specs.Exceptions.{Uncovered, Unread, Unserved, any_desk_ends, ends_by}
-use Rattle.room_laws.specs.Exceptions.{is_back_due, own_desk_ends}
+use Rattle.room_laws.specs.Exceptions.{Concern, OutOfTurn, Overdue, ShiftOver, LateForScene}
+use Rattle.room_laws.specs.Exceptions.{Unanswered, Uncovered, Unacknowledged, Unserved}
+use Rattle.room_laws.specs.Exceptions.{any_desk_ends, ends_by, is_back_due, own_desk_ends}
 
 -- ---- what a change does to rows that are there; `Over` says what is ended
 abbrev pub turn_at : Callsign → ℕ → Room → Option Turn
@@ -61,7 +61,7 @@ module _ (Over : ℕ → Concern → Type 0) where
   pub record VehicleStep (v u : Vehicle) : Type 0 where
     pub way : is_mobilised v.status ≡ true
         → ((is_mobilised u.status ≡ true) × (u.holder ≡ v.holder))
-        ⊎ ((n : ℕ) → Over v.holder (Unread n v.callsign) × Over v.holder (Slow n v.callsign))
+        ⊎ ((n : ℕ) → Over v.holder (Unacknowledged n v.callsign) × Over v.holder (LateForScene n v.callsign))
     pub duty : is_off v.status ≡ false
         → ((is_off u.status ≡ false) × (u.holder ≡ v.holder) × (u.shift_end ≡ v.shift_end))
         ⊎ Over v.holder (ShiftOver v.callsign)
@@ -73,8 +73,8 @@ module _ (Over : ℕ → Concern → Type 0) where
   pub record TurnGoesOn (t x : Turn) : Type 0 where
     pub same : (x.division ≡ t.division) × (x.incident ≡ t.incident) × (x.ordered ≡ t.ordered)
     pub read : ((x.ended ≡ None) × (x.acknowledged ≡ t.acknowledged))
-        ⊎ Over x.division (Unread x.incident x.callsign)
-    pub way : (x.ended ≡ None) ⊎ Over x.division (Slow x.incident x.callsign)
+        ⊎ Over x.division (Unacknowledged x.incident x.callsign)
+    pub way : (x.ended ≡ None) ⊎ Over x.division (LateForScene x.incident x.callsign)
 
   abbrev pub Served : Room → Turn → Type 0
   Served r x = (t : Turn) × Among t r.turns × (t.division ≡ x.division)

@@ -38,8 +38,8 @@ use Rattle.room_laws.proofs.AskEffects.{same_found}
 use Rattle.room_laws.proofs.Effects.{Effect, Effects, TurnGoesOn, VehicleStep, incident_in}
 use Rattle.room_laws.proofs.Effects.{offered_still, offered_unfree, posted_free, turn_at}
 use Rattle.room_laws.proofs.Effects.{vehicle_in}
-use Rattle.room_laws.specs.Exceptions.{Concern, OutOfTurn, Overdue, ShiftOver, Slow, Unanswered}
-use Rattle.room_laws.specs.Exceptions.{Uncovered, Unread, Unserved}
+use Rattle.room_laws.specs.Exceptions.{Concern, OutOfTurn, Overdue, ShiftOver, LateForScene}
+use Rattle.room_laws.specs.Exceptions.{Unanswered, Uncovered, Unacknowledged, Unserved}
 
 -- what is put is the only new row
 pub put_among : {R K : Type 0} (cmp : K → K → Ordering) (key : R → K) (xs : List R) (x y : R)
@@ -177,7 +177,7 @@ module _ (Over : ℕ → Concern → Type 0) (r : Room) where
 
   pub way_kept : (d n : ℕ) (c : Callsign) (v : Vehicle) → vehicle_in c r ≡ Some v → v.holder ≡ d
       → is_mobilised v.status ≡ true → (k : Concern)
-      → (Over d (Unread n c) × Over d (Slow n c) → Over d k) → (xs : List Change)
+      → (Over d (Unacknowledged n c) × Over d (LateForScene n c) → Over d k) → (xs : List Change)
       → Effects Over r xs → DrivesOn d (vehicle_in c (apply r xs)) ⊎ Over d k
   way_kept d n c v there own mobilised k choose xs f =
       let key : c ≡ v.callsign = row_key callsign_cmp vehicle_key callsigns_total exact_callsigns r.vehicles c v
@@ -185,8 +185,9 @@ module _ (Over : ℕ → Concern → Type 0) (r : Room) where
       vehicle_kept c v there (λ o. DrivesOn d o ⊎ Over d k) (λ u same step. elim (step.way mobilised) [
         | inl on ↦ inl (record { vehicle = u; found = refl; holder = on.1 ∙ own; mobilised = on.0 })
         | inr over ↦
-            inr (choose (subst (λ (k : Callsign). Over d (Unread n k) × Over d (Slow n k)) (sym key)
-            (subst (λ (h : ℕ). Over h (Unread n v.callsign) × Over h (Slow n v.callsign)) own (over n))))
+            inr (choose (subst (λ (k : Callsign). Over d (Unacknowledged n k) × Over d (LateForScene n k)) (sym key)
+            (subst (λ (h : ℕ). Over h (Unacknowledged n v.callsign) × Over h (LateForScene n v.callsign)) own
+            (over n))))
       ]) (λ u h offered to so. absurd (offered_still v.status offered mobilised)) xs f
       (inl (record { vehicle = v; found = refl; holder = own; mobilised = mobilised }))
 
@@ -225,10 +226,10 @@ module _ (Over : ℕ → Concern → Type 0) (r : Room) where
 
   module _ (d n : ℕ) (c : Callsign) (o : ℕ) (t : Turn) (there : turn_at c o r ≡ Some t)
       (unended : t.ended ≡ None) (own : t.division ≡ d) (for_it : t.incident ≡ n) where
-    pub slow_kept : (xs : List Change) → Effects Over r xs
-        → IsOpenFor d n (turn_at c o (apply r xs)) ⊎ Over d (Slow n c)
-    slow_kept xs f =
-        turn_kept c o t there unended (λ q. IsOpenFor d n q ⊎ Over d (Slow n c)) (λ x same g. elim g.way [
+    pub late_kept : (xs : List Change) → Effects Over r xs
+        → IsOpenFor d n (turn_at c o (apply r xs)) ⊎ Over d (LateForScene n c)
+    late_kept xs f =
+        turn_kept c o t there unended (λ q. IsOpenFor d n q ⊎ Over d (LateForScene n c)) (λ x same g. elim g.way [
           | inl goes ↦
               inl (record {
                 turn = x;
@@ -238,7 +239,7 @@ module _ (Over : ℕ → Concern → Type 0) (r : Room) where
                 for_it = g.same.1 ∙ for_it;
               })
           | inr over ↦
-              inr (moved_over d n c x Slow (g.same.0 ∙ own) (g.same.1 ∙ for_it)
+              inr (moved_over d n c x LateForScene (g.same.0 ∙ own) (g.same.1 ∙ for_it)
               (ap (λ (k : Callsign × ℕ). k.0) same) over)
         ]) xs f (inl (record { turn = t; found = refl; unended = unended; own = own; for_it = for_it }))
 
@@ -247,10 +248,10 @@ module _ (Over : ℕ → Concern → Type 0) (r : Room) where
       pub unseen : turn.turn.acknowledged ≡ None
       pub ordered : turn.turn.ordered ≡ t.ordered
 
-    pub unread_kept : t.acknowledged ≡ None → (xs : List Change) → Effects Over r xs
-        → IsUnseen (turn_at c o (apply r xs)) ⊎ Over d (Unread n c)
-    unread_kept unseen xs f =
-        turn_kept c o t there unended (λ q. IsUnseen q ⊎ Over d (Unread n c)) (λ x same g. elim g.read [
+    pub unacknowledged_kept : t.acknowledged ≡ None → (xs : List Change) → Effects Over r xs
+        → IsUnseen (turn_at c o (apply r xs)) ⊎ Over d (Unacknowledged n c)
+    unacknowledged_kept unseen xs f =
+        turn_kept c o t there unended (λ q. IsUnseen q ⊎ Over d (Unacknowledged n c)) (λ x same g. elim g.read [
           | inl goes ↦
               inl (record {
                 turn = record {
@@ -264,7 +265,7 @@ module _ (Over : ℕ → Concern → Type 0) (r : Room) where
                 ordered = g.same.2;
               })
           | inr over ↦
-              inr (moved_over d n c x Unread (g.same.0 ∙ own) (g.same.1 ∙ for_it)
+              inr (moved_over d n c x Unacknowledged (g.same.0 ∙ own) (g.same.1 ∙ for_it)
               (ap (λ (k : Callsign × ℕ). k.0) same) over)
         ]) xs f (inl (record {
           turn = record { turn = t; found = refl; unended = unended; own = own; for_it = for_it };

@@ -31,17 +31,17 @@ use Rattle.room_model.specs.RoomAgreements.{IsWellFormed}
 use Rattle.room_model.specs.Run.{room_run}
 use Rattle.room_model.specs.Step.{answer_to, decided, room_after}
 use Rattle.room_laws.proofs.AskEffects.{event_effects}
-use Rattle.room_laws.proofs.Causes.{Has, HasOverdue, HasReport, HasShiftOver, HasSlow}
-use Rattle.room_laws.proofs.Causes.{HasUnanswered, HasUncovered, HasUnread, HasUnserved, due}
-use Rattle.room_laws.proofs.Causes.{earlier_start, among_passing, fewer_pass, has_due, later_age}
-use Rattle.room_laws.proofs.Causes.{none_or}
+use Rattle.room_laws.proofs.Causes.{Has, HasOverdue, HasReport, HasShiftOver, HasLate}
+use Rattle.room_laws.proofs.Causes.{HasUnanswered, HasUncovered, HasUnacknowledged, HasUnserved}
+use Rattle.room_laws.proofs.Causes.{due, earlier_start, among_passing, fewer_pass, has_due}
+use Rattle.room_laws.proofs.Causes.{later_age, none_or}
 use Rattle.room_laws.proofs.Effects.{Effects, EndsBy, posted_free, turn_at}
 use Rattle.room_laws.proofs.Kept.{incident_kept, loan_stays, offer_stays, point_stays, posted_kept}
-use Rattle.room_laws.proofs.Kept.{report_stays, serving_kept, shift_kept, slow_kept, unread_kept}
-use Rattle.room_laws.proofs.Kept.{way_kept}
+use Rattle.room_laws.proofs.Kept.{report_stays, serving_kept, shift_kept, late_kept}
+use Rattle.room_laws.proofs.Kept.{unacknowledged_kept, way_kept}
 use Rattle.room_laws.specs.Exceptions.{Concern, Ends, IsDue, IsEnded, OutOfTurn, Overdue, ShiftOver}
-use Rattle.room_laws.specs.Exceptions.{Slow, Unanswered, Uncovered, Unread, Unserved, is_ended_by}
-use Rattle.room_laws.specs.Exceptions.{is_unclassed, loses_class}
+use Rattle.room_laws.specs.Exceptions.{LateForScene, Unanswered, Uncovered, Unacknowledged}
+use Rattle.room_laws.specs.Exceptions.{Unserved, is_ended_by, is_unclassed, loses_class}
 
 -- ---- counts of rows by their keys
 module _ {R K : Type 0} (cmp : K → K → Ordering) (key : R → K) (total : IsTotalOrder cmp) where
@@ -149,12 +149,12 @@ later d m t r le (Unserved n) h = record {
   late = later_age 180 m t _ le h.late;
   nobody = h.nobody;
 }
-later d m t r le (Unread n c) h = record {
+later d m t r le (Unacknowledged n c) h = record {
   way = h.way;
   unseen = h.unseen;
   late = later_age 60 m t _ le h.late;
 }
-later d m t r le (Slow n c) h = record {
+later d m t r le (LateForScene n c) h = record {
   way = h.way;
   incident = h.incident;
   found = h.found;
@@ -236,16 +236,16 @@ module _ (d m : ℕ) (e : Event) (r : Room) (w : IsWellFormed r) where
         ]
       ]
 
-  unread_stays : (n : ℕ) (c : Callsign) → HasUnread d m r n c → Stays (Unread n c)
-  unread_stays n c h =
+  unacknowledged_stays : (n : ℕ) (c : Callsign) → HasUnacknowledged d m r n c → Stays (Unacknowledged n c)
+  unacknowledged_stays n c h =
       let s = room_after e r in
       let y = h.way in
-      elim (way_kept Over r d n c y.vehicle y.found y.holder y.mobilised (Unread n c) (λ o. o.0) xs effects) [
-        | inr ended ↦ over (Unread n c) ended
+      elim (way_kept Over r d n c y.vehicle y.found y.holder y.mobilised (Unacknowledged n c) (λ o. o.0) xs effects) [
+        | inr ended ↦ over (Unacknowledged n c) ended
         | inl drives ↦
-            elim (unread_kept Over r d n c y.turn.order y.turn y.turn_found y.unended y.own y.for_it h.unseen xs
+            elim (unacknowledged_kept Over r d n c y.turn.order y.turn y.turn_found y.unended y.own y.for_it h.unseen xs
             effects) [
-              | inr ended ↦ over (Unread n c) ended
+              | inr ended ↦ over (Unacknowledged n c) ended
               | inl is ↦
                   let t = is.turn.turn in
                   let order : t.order ≡ y.turn.order = has_order s c y.turn.order t is.turn.found in
@@ -268,22 +268,23 @@ module _ (d m : ℕ) (e : Event) (r : Room) (w : IsWellFormed r) where
             ]
       ]
 
-  slow_stays : (n : ℕ) (c : Callsign) → HasSlow d m r n c → Stays (Slow n c)
+  late_stays : (n : ℕ) (c : Callsign) → HasLate d m r n c → Stays (LateForScene n c)
   unfolding incident_of
-  slow_stays n c h =
+  late_stays n c h =
       let s = room_after e r in
       let y = h.way in
       let i = incident_kept Over r d n h.incident h.found xs effects in
-      elim (way_kept Over r d n c y.vehicle y.found y.holder y.mobilised (Slow n c) (λ o. o.1) xs effects) [
-        | inr ended ↦ over (Slow n c) ended
+      elim (way_kept Over r d n c y.vehicle y.found y.holder y.mobilised (LateForScene n c) (λ o. o.1) xs effects) [
+        | inr ended ↦ over (LateForScene n c) ended
         | inl drives ↦
-            elim (slow_kept Over r d n c y.turn.order y.turn y.turn_found y.unended y.own y.for_it xs effects) [
-              | inr ended ↦ over (Slow n c) ended
+            elim (late_kept Over r d n c y.turn.order y.turn y.turn_found y.unended y.own y.for_it xs effects) [
+              | inr ended ↦ over (LateForScene n c) ended
               | inl is ↦
                   let t = is.turn in
                   let order : t.order ≡ y.turn.order = has_order s c y.turn.order t is.found in
                   elim i.class [
-                    | inl zero_class ↦ inr (or_right (is_ended_by d (Slow n c) e r) (loses_class d (Slow n c) s)
+                    | inl zero_class ↦
+                        inr (or_right (is_ended_by d (LateForScene n c) e r) (loses_class d (LateForScene n c) s)
                         (ap is_unclassed i.found ∙ eq-eqb i.incident.class 0 zero_class))
                     | inr shorter ↦
                         inl (record {
@@ -412,8 +413,8 @@ module _ (d m : ℕ) (e : Event) (r : Room) (w : IsWellFormed r) where
 
   pub stays : IsWellFormed (room_after e r) → (k : Concern) → Has d m r k → Stays k
   stays after (Unserved n) h = unserved_stays n h
-  stays after (Unread n c) h = unread_stays n c h
-  stays after (Slow n c) h = slow_stays n c h
+  stays after (Unacknowledged n c) h = unacknowledged_stays n c h
+  stays after (LateForScene n c) h = late_stays n c h
   stays after (OutOfTurn n c) h = report_goes_on n c h
   stays after (Overdue n c) h = loan_goes_on n c h
   stays after (ShiftOver c) h = shift_goes_on c h

@@ -9,6 +9,7 @@ use Rattle.room_place.specs.Choice.{Among, AreDistinct}
 use Rattle.room_types.specs.KeyLemmas.{entries_total}
 use Rattle.room_types.specs.KeyedRows.{IsBelowAll, IsKeyed}
 use Rattle.room_types.specs.Keys.{entry_cmp, entry_key}
+use Rattle.room_types.specs.Ranks.{rank_cmp, rank_number}
 use Rattle.room_types.specs.declared.answers.QueueEntry.{QueueEntry}
 use Rattle.room_model.proofs.QueueLaws.{ordered_queue}
 use Rattle.room_model.specs.Events.{by_desk}
@@ -45,11 +46,13 @@ greater_rank : (m n : ℕ) → m < n → nat_cmp n m ≡ Greater
 greater_rank m n less = grind arith
 
 ranked : (before after : List QueueEntry) (e f : QueueEntry) → IsOrdered (before ++ f ∷ after)
-    → Among e (before ++ f ∷ after) → e.rank < f.rank → Among e before
+    → Among e (before ++ f ∷ after) → rank_number e.rank < rank_number f.rank → Among e before
 ranked [] after e f h (inl same) less =
-    let alike : e.rank ≡ f.rank = ap (λ (x : QueueEntry). x.rank) same in omega (arith, alike, less)
+    let alike : rank_number e.rank ≡ rank_number f.rank = ap (λ (x : QueueEntry). rank_number x.rank) same in
+    omega (arith, alike, less)
 ranked [] after e f h (inr a) less =
-    absurd (lower_rank (nat_cmp f.rank e.rank) _ (greater_rank e.rank f.rank less) (below f after e h.0 a))
+    absurd (lower_rank (rank_cmp f.rank e.rank) _
+    (greater_rank (rank_number e.rank) (rank_number f.rank) less) (below f after e h.0 a))
 ranked (x ∷ before) after e f h (inl same) less = inl same
 ranked (x ∷ before) after e f h (inr a) less = inr (ranked before after e f h.1 a less)
 

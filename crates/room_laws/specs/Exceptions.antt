@@ -26,15 +26,17 @@ use Rattle.room_model.specs.Reports.{is_due, is_home}
 use Rattle.room_model.specs.Room.{Room}
 use Rattle.room_model.specs.Run.{room_run}
 use Rattle.room_model.specs.Step.{answer_to, decided, room_after}
+use Rattle.room_types.specs.declared.ranks.Rank.{Rank}
+use Rattle.room_types.specs.declared.ranks.Rank.TheVariants as rank
 
 -- What needs an eye, rank by rank, by the number and the vehicle that its entry names.
 pub data Concern : Type 0 where
   -- 1: an incident that nobody serves
   Unserved : ℕ → Concern
   -- 2: an order for an incident, which its vehicle has not acknowledged
-  Unread : ℕ → Callsign → Concern
-  -- 3: a vehicle that is too slow to an incident
-  Slow : ℕ → Callsign → Concern
+  Unacknowledged : ℕ → Callsign → Concern
+  -- 3: a vehicle that is too late_for_scene to an incident
+  LateForScene : ℕ → Callsign → Concern
   -- 4: a report of this number, out of turn
   OutOfTurn : ℕ → Callsign → Concern
   -- 5: a loan that is over, with this other division
@@ -47,15 +49,15 @@ pub data Concern : Type 0 where
   Unanswered : ℕ → Callsign → Concern
 
 -- the rank, number and callsign of its entry; since when it lasts may change while it stays
-abbrev pub label : Concern → ℕ × ℕ × Option Callsign
-label (Unserved n) = (1, n, None)
-label (Unread n c) = (2, n, Some c)
-label (Slow n c) = (3, n, Some c)
-label (OutOfTurn n c) = (4, n, Some c)
-label (Overdue n c) = (5, n, Some c)
-label (ShiftOver c) = (6, 0, Some c)
-label (Uncovered n) = (7, n, None)
-label (Unanswered n c) = (8, n, Some c)
+abbrev pub label : Concern → Rank × ℕ × Option Callsign
+label (Unserved n) = (rank.Unserved, n, None)
+label (Unacknowledged n c) = (rank.Unacknowledged, n, Some c)
+label (LateForScene n c) = (rank.LateForScene, n, Some c)
+label (OutOfTurn n c) = (rank.OutOfTurn, n, Some c)
+label (Overdue n c) = (rank.Overdue, n, Some c)
+label (ShiftOver c) = (rank.ShiftOver, 0, Some c)
+label (Uncovered n) = (rank.Uncovered, n, None)
+label (Unanswered n c) = (rank.Unanswered, n, Some c)
 
 abbrev pub IsOf : Concern → QueueEntry → Type 0
 IsOf k x = (x.rank, x.number, x.callsign) ≡ label k
@@ -78,8 +80,8 @@ abbrev pub own_desk_ends : Concern → Ask → Bool
 own_desk_ends (Unserved n) (ask.Mobilise m c) = m == n
 own_desk_ends (Unserved n) (ask.Close m) = m == n
 own_desk_ends (Unserved n) (ask.Merge m into) = m == n
-own_desk_ends (Unread n c) (ask.StandDown e) = same_callsign e c
-own_desk_ends (Slow n c) (ask.StandDown e) = same_callsign e c
+own_desk_ends (Unacknowledged n c) (ask.StandDown e) = same_callsign e c
+own_desk_ends (LateForScene n c) (ask.StandDown e) = same_callsign e c
 own_desk_ends (OutOfTurn n c) (ask.Clear e m) = same_callsign e c && m == n
 own_desk_ends (ShiftOver c) (ask.Off e) = same_callsign e c
 own_desk_ends (ShiftOver c) (ask.GiveBack e) = same_callsign e c
@@ -100,8 +102,8 @@ any_desk_ends k a = false
 -- what a crew's report ends: each but Position shows that the order is read; each but Position and
 -- Mobile that the vehicle is no longer on its way; Home gives it back where that is due
 abbrev pub report_ends : Concern → Callsign → Button → Bool → Bool
-report_ends (Unread n c) e b back = same_callsign e c && not (same_button b button.Position)
-report_ends (Slow n c) e b back =
+report_ends (Unacknowledged n c) e b back = same_callsign e c && not (same_button b button.Position)
+report_ends (LateForScene n c) e b back =
     same_callsign e c && not (same_button b button.Position || same_button b button.Mobile)
 report_ends (Overdue n c) e b back = same_callsign e c && (is_home b && back)
 report_ends (ShiftOver c) e b back = same_callsign e c && (is_home b && back)
@@ -128,13 +130,13 @@ abbrev pub is_ended_by : ℕ → Concern → Event → Room → Bool
 is_ended_by d k e r = ends_by d k e.who e.ask (is_back_due e.who e.at r) (answer_to e r)
 
 -- The incident has class 0, and with it the longest limit. Calls have classes 1 to 3; of these the
--- lower has the shorter limit, so that another call or a merge makes no vehicle less slow.
+-- lower has the shorter limit, so that another call or a merge makes no vehicle less late_for_scene.
 abbrev pub is_unclassed : Option Incident → Bool
 is_unclassed None = false
 is_unclassed (Some i) = i.class == 0
 
 abbrev pub loses_class : ℕ → Concern → Room → Bool
-loses_class d (Slow n c) r = is_unclassed (incident_of d n r)
+loses_class d (LateForScene n c) r = is_unclassed (incident_of d n r)
 loses_class d k r = false
 
 -- the event ends it: it is one of these, and it changed the room

@@ -3,6 +3,7 @@ use Rattle.std.specs.Prelude.{List, take, ℕ, ◌++◌, ◌<◌, ◌∷◌, ◌
 use Rattle.std.specs.declared.cmp.Ordering.TheVariants.{Less}
 use Rattle.room_place.specs.Choice.{Among, AreDistinct}
 use Rattle.room_types.specs.Keys.{entry_cmp}
+use Rattle.room_types.specs.Ranks.{rank_number}
 use Rattle.room_types.specs.declared.answers.QueueEntry.{QueueEntry}
 use Rattle.room_model.specs.Queue.{entries}
 use Rattle.room_model.specs.Room.{Room}
@@ -19,7 +20,7 @@ pub record IsUrgentFirst (d at : ℕ) (room : Room) (queue : List QueueEntry) : 
   pub once : AreDistinct queue
   -- each entry stands before all of a higher rank
   pub by_rank : (before after : List QueueEntry) (e f : QueueEntry)
-      → queue ≡ before ++ f ∷ after → Among e queue → e.rank < f.rank → Among e before
+      → queue ≡ before ++ f ∷ after → Among e queue → rank_number e.rank < rank_number f.rank → Among e before
   -- the first so many are the most urgent: each of them is more urgent than all that is not there
   pub first : (many : ℕ) (e f : QueueEntry) → Among e (take many queue) → Among f queue
       → Among f (take many queue) ⊎ IsMoreUrgent e f

@@ -24,7 +24,8 @@ ghost use Rattle.room_model.specs.Run.{room_run};
 ghost use Rattle.room_model.specs.Step.{answer_to};
 ghost use Rattle.room_laws.specs.Exceptions.{Concern, IsDue, IsEnded, IsOf, IsSeen, IsShown};
 ghost use Rattle.room_laws.specs.Exceptions.{LooksEvery, looks, OutOfTurn, Overdue, ShiftOver};
-ghost use Rattle.room_laws.specs.Exceptions.{Slow, Unanswered, Uncovered, Unread, Unserved};
+ghost use Rattle.room_laws.specs.Exceptions.{LateForScene, Unanswered, Uncovered, Unacknowledged};
+ghost use Rattle.room_laws.specs.Exceptions.{Unserved};
 
 /// Each entry of a queue is of something that needs an eye.
 pub fn each_entry_has_its_concern()
@@ -45,11 +46,11 @@ pub fn each_cause_is_due()
     ensures order { (d : ℕ) (r : Room) (v : Vehicle) (t : Turn) →
         IsWellFormed r → Among v r.vehicles → v.holder ≡ d → is_mobilised v.status ≡ true →
         open_turn d v.callsign r ≡ Some t → t.acknowledged ≡ None →
-        IsDue d (Unread t.incident v.callsign) (t.ordered + 61) r }
+        IsDue d (Unacknowledged t.incident v.callsign) (t.ordered + 61) r }
     ensures way { (d : ℕ) (r : Room) (v : Vehicle) (t : Turn) (i : Incident) →
         IsWellFormed r → Among v r.vehicles → v.holder ≡ d → is_mobilised v.status ≡ true →
         open_turn d v.callsign r ≡ Some t → incident_of d t.incident r ≡ Some i →
-        IsDue d (Slow t.incident v.callsign) (i.opened + scene_limit i.class + 1) r }
+        IsDue d (LateForScene t.incident v.callsign) (i.opened + scene_limit i.class + 1) r }
     ensures report { (d m : ℕ) (r : Room) (x : Report) →
         IsWellFormed r → Among x r.reports → x.division ≡ d → is_exception x ≡ true →
         IsDue d (OutOfTurn x.number x.callsign) m r }

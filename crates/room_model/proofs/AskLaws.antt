@@ -370,5 +370,6 @@ module _ (d : ℕ) (s r : Room) where
   asked_same ask.Offers at sees = offers_same (sees.same_offers (λ k. refl))
   asked_same (ask.Times from to) at sees = times_same from to (sees.same_opened from to refl)
   asked_same ask.Order at sees = refl
+  asked_same ask.Job at sees = refl
   asked_same (ask.Report p) at sees = refl
   asked_same ask.Last at sees = refl

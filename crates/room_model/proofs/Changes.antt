@@ -49,7 +49,7 @@ use Rattle.room_model.specs.Reports.{outcome_of, report_held, report_in, report_
 use Rattle.room_model.specs.Reports.{report_somewhere, turn_changes}
 use Rattle.room_model.specs.Room.{Room}
 use Rattle.room_model.specs.Shares.{ArePlain, IsPlain}
-use Rattle.room_model.specs.Step.{crew_asks, decided, desk_asks, position_asks, who_asks}
+use Rattle.room_model.specs.Step.{decided, desk_asks, position_asks, who_asks}
 use Rattle.room_model.specs.Vehicles.{duty, mobilise, mobilise_held, mobilised, off, off_duty}
 use Rattle.room_model.specs.Vehicles.{on_duty, stand_down, stand_down_held, standby, standby_at}
 use Rattle.room_model.specs.Vehicles.{stands_by, turn_stood_down}
@@ -291,7 +291,7 @@ module _ (r : Room) (Q : Change → Type 0) (q : Allows r Q) where
   kept_all c p at (Some k) e = refuse _ _ _ tt
   kept_all c p at None e = placed_all (vehicle_at c r) c p at e
 
-  pub crew_all : (c : Callsign) (a : Ask) (at : ℕ) → Holds (crew_asks c a at r)
+  pub crew_all : (c : Callsign) (a : Ask) (at : ℕ) → Holds (who_asks (Crew c) a at r)
   crew_all c (ask.Report p) at = kept_all c p at (kept_report c p.number r) refl
   crew_all c a at = quiet_all (Crew c) a at refl
 

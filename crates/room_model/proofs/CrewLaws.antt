@@ -15,28 +15,33 @@ use Rattle.room_types.specs.KeyLemmas.{callsigns_total, exact_numbered, numbered
 use Rattle.room_types.specs.Texts.{Callsign}
 use Rattle.room_types.specs.declared.asks.Ask.{Ask}
 use Rattle.room_types.specs.declared.asks.Press.{Press}
+use Rattle.room_types.specs.declared.asks.Who.TheVariants.{Crew}
 use Rattle.room_types.specs.declared.changes.Change.{Change}
 use Rattle.room_types.specs.declared.changes.Change.TheVariants.{DropAssignment, DropLoan}
 use Rattle.room_types.specs.declared.changes.Change.TheVariants.{DropOffer, PutAssignment, PutCall}
 use Rattle.room_types.specs.declared.changes.Change.TheVariants.{PutDivision, PutIncident, PutLoan}
 use Rattle.room_types.specs.declared.changes.Change.TheVariants.{PutOffer, PutPoint, PutReport}
 use Rattle.room_types.specs.declared.changes.Change.TheVariants.{PutTurn, PutVehicle, Settle}
+use Rattle.room_types.specs.declared.tables.Assignment.{Assignment}
 use Rattle.room_types.specs.declared.tables.Report.{Report}
 use Rattle.room_types.specs.declared.tables.Vehicle.{Vehicle}
 use Rattle.room_model.proofs.Changes.{all_plain, crew_all, plain_allowed}
 use Rattle.room_model.proofs.OwnChanges.{in_order_one}
+use Rattle.room_model.proofs.Questions.{question_stays}
 use Rattle.room_model.proofs.Tests.{both_true, filter_filter, is_equal, keep_row, right_true}
-use Rattle.room_model.specs.Decisions.{changes_of}
+use Rattle.room_model.specs.Decisions.{changes_of, where_found}
 use Rattle.room_model.specs.Events.{by_crew}
+use Rattle.room_model.specs.CrewJobs.{job_in, job_of, show_job}
 use Rattle.room_model.specs.CrewRows.{in_hand}
-use Rattle.room_model.specs.Queries.{assignment_at, borrowed, held, kept_report, loan_at, open_turn}
-use Rattle.room_model.specs.Queries.{vehicle_at}
+use Rattle.room_model.specs.Queries.{assignment_at, borrowed, calls_of, held, incident_of}
+use Rattle.room_model.specs.Queries.{kept_report, loan_at, open_turn, vehicle_at}
 use Rattle.room_model.specs.Reports.{last_of, order_of, report_held, report_in, report_kept}
 use Rattle.room_model.specs.Reports.{report_somewhere}
 use Rattle.room_model.specs.Room.{IsInOrder, Room, apply, apply_one}
-use Rattle.room_model.specs.Shares.{ArePlain, IsPlain, mine}
-use Rattle.room_model.specs.Step.{crew_asks, room_after}
+use Rattle.room_model.specs.Shares.{AgreeOn, AgreeOnJob, ArePlain, IsPlain, mine}
+use Rattle.room_model.specs.Step.{crew_asks, room_after, who_asks}
 use Rattle.room_types.specs.declared.asks.Ask.TheVariants as ask
+use Rattle.room_types.specs.declared.refusal_statuses.Refusal.TheVariants as refusal
 
 -- ---- what two rooms must agree on, for a crew to be answered alike in both
 record SeesCrew (c : Callsign) (s r : Room) : Type 0 where
@@ -274,6 +279,9 @@ module _ (c : Callsign) where
 
   pub mine_after : (a : Ask) (at : ℕ) (r : Room) → IsInOrder r
       → mine c (room_after (by_crew c a at) r) ≡ mine c (room_after (by_crew c a at) (mine c r))
+  mine_after ask.Job at r h =
+      ap (mine c) (question_stays (by_crew c ask.Job at) r refl) ∙ sym (mine_twice r)
+      ∙ sym (ap (mine c) (question_stays (by_crew c ask.Job at) (mine c r) refl))
   mine_after a at r h =
       sym (ap (λ x. mine c (apply (mine c r) (changes_of x))) (crew_mine c r h a at)
       ∙ mine_apply r (changes_of (crew_asks c a at r)) h
@@ -289,3 +297,33 @@ module _ (c : Callsign) where
       ≡ mine c (room_after (by_crew c a at) s)
   mine_equal a at r s h g same =
       mine_after a at r h ∙ ap (λ t. mine c (room_after (by_crew c a at) t)) same ∙ sym (mine_after a at s g)
+
+-- ---- whatever is asked
+module _ (c : Callsign) (r s : Room) where
+  pub agreed_rows : (a : Ask) → AgreeOn (Crew c) a r s → mine c r ≡ mine c s
+  agreed_rows ask.Job agree = agree.vehicle
+  agreed_rows a agree = agree
+
+  order_same : AgreeOnJob c r s → (o : Option Assignment) → assignment_at c r ≡ o
+      → job_in r o ≡ job_in s o
+  order_same agree None e = refl
+  order_same agree (Some a) e = λ i v. job_of v a (agree.incident a e i) (agree.calls a e i)
+
+  module _ (order : IsInOrder r) (other : IsInOrder s) where
+    pub job_same : AgreeOnJob c r s → show_job c r ≡ show_job c s
+    job_same agree =
+        let here = sees_beside c r order (mine c r).reports in
+        let there = sees_beside c s other (mine c s).reports in
+        let vehicle : vehicle_at c r
+        ≡ vehicle_at c s = sym here.same_vehicle ∙ ap (vehicle_at c) agree.vehicle ∙ there.same_vehicle in
+        let assigned : assignment_at c r
+        ≡ assignment_at c s = sym here.same_assignment ∙ ap (assignment_at c) agree.vehicle ∙ there.same_assignment in
+        ap (λ v. where_found v refusal.NoSuchVehicle (job_in r (assignment_at c r))) vehicle
+        ∙ ap (where_found (vehicle_at c s) refusal.NoSuchVehicle)
+        (order_same agree (assignment_at c r) refl ∙ ap (job_in s) assigned)
+
+    -- it gets equal answers where the rooms agree on what decides its ask
+    pub crew_alike : (a : Ask) (at : ℕ) → AgreeOn (Crew c) a r s
+        → who_asks (Crew c) a at r ≡ who_asks (Crew c) a at s
+    crew_alike ask.Job at agree = job_same agree
+    crew_alike a at agree = mine_answer c a at r s order other agree

@@ -57,7 +57,7 @@ use Rattle.room_model.specs.Reports.{report_held, report_in, report_kept, report
 use Rattle.room_model.specs.Reports.{report_somewhere, turn_changes, with_report}
 use Rattle.room_model.specs.Room.{Room, apply, apply_one, settled}
 use Rattle.room_model.specs.Run.{room_run}
-use Rattle.room_model.specs.Step.{crew_asks, decided, desk_asks, position_asks, room_after}
+use Rattle.room_model.specs.Step.{decided, desk_asks, position_asks, room_after}
 use Rattle.room_model.specs.Step.{who_asks}
 use Rattle.room_model.specs.Vehicles.{duty, mobilise, mobilise_held, mobilised, off, off_duty}
 use Rattle.room_model.specs.Vehicles.{on_duty, stand_down, stand_down_held, standby, standby_at}
@@ -301,7 +301,7 @@ module _ (r : Room) where
   kept_fleet None c p at = reported_fleet _ c p at
   kept_fleet (Some k) c p at = refused_fleet _ _ _ tt
 
-  crew_fleet : (c : Callsign) (a : Ask) (at : ℕ) → SameFleet (crew_asks c a at r)
+  crew_fleet : (c : Callsign) (a : Ask) (at : ℕ) → SameFleet (who_asks (Crew c) a at r)
   crew_fleet c (ask.Report p) at = kept_fleet _ c p at
   crew_fleet c a at = quiet_fleet (Crew c) a at refl
 

@@ -34,7 +34,7 @@ use Rattle.room_model.specs.Decisions.{changes_of}
 use Rattle.room_model.specs.Queries.{vehicle_at}
 use Rattle.room_model.specs.Room.{Room, apply, apply_one, settled}
 use Rattle.room_model.specs.Run.{room_run}
-use Rattle.room_model.specs.Step.{IsAddressed, crew_asks, decided, desk_asks, is_crews, is_desks}
+use Rattle.room_model.specs.Step.{IsAddressed, decided, desk_asks, is_crews, is_desks}
 use Rattle.room_model.specs.Step.{is_for, position_asks, room_after, who_asks}
 use Rattle.room_model.specs.RoomAgreements.{IsWellFormed}
 use Rattle.room_types.specs.declared.asks.Ask.TheVariants as ask
@@ -69,7 +69,7 @@ position_kept p (ask.Call f) at r w = take_call_kept r w (new_call p f at)
 position_kept p a at r w = quiet_kept (Position p) a at r w refl
 
 crew_kept : (c : Callsign) (a : Ask) (at : ℕ) (r : Room) (w : IsWellFormed r) → IsNumbered a
-    → Kept 0 r w (crew_asks c a at r)
+    → Kept 0 r w (who_asks (Crew c) a at r)
 crew_kept c (ask.Report p) at r w h = take_report_kept c r w p at h
 crew_kept c a at r w h = quiet_kept (Crew c) a at r w refl
 

@@ -12,6 +12,7 @@ pub mod FleetStays
 pub mod Foreign
 pub mod Handed
 pub mod IncidentChanges
+pub mod JobLaws
 pub mod KeptAsks
 pub mod KeptCalls
 pub mod KeptEvents

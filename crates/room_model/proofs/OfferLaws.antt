@@ -22,6 +22,8 @@ use Rattle.room_types.specs.declared.changes.Change.TheVariants.{PutOffer}
 use Rattle.room_types.specs.declared.codes.Kind.{Kind}
 use Rattle.room_types.specs.declared.codes.Kind.TheVariants.{Ambulance, Car, Support}
 use Rattle.room_types.specs.declared.refusal_statuses.Refusal.TheVariants.{NoSuchOffer}
+use Rattle.room_types.specs.declared.refusal_statuses.Refusal.TheVariants.{NoSuchVehicle}
+use Rattle.room_types.specs.declared.tables.Assignment.{Assignment}
 use Rattle.room_types.specs.declared.tables.Call.{Call}
 use Rattle.room_types.specs.declared.tables.Incident.{Incident}
 use Rattle.room_types.specs.declared.tables.Offer.{Offer}
@@ -32,11 +34,13 @@ use Rattle.room_model.proofs.OffersMade.{AllMakeNone, MakesNone, none_made}
 use Rattle.room_model.proofs.OpenTurns.{row_there}
 use Rattle.room_model.proofs.Tests.{row_among}
 use Rattle.room_model.specs.Calls.{call_in, call_kept, call_somewhere, new_call}
+use Rattle.room_model.specs.CrewJobs.{job_in}
 use Rattle.room_model.specs.Crossing.{Crossing, cross, cross_call, cross_crew, cross_desk}
 use Rattle.room_model.specs.Crossing.{cross_other, cross_own, cross_position, cross_report}
 use Rattle.room_model.specs.Crossing.{cross_who}
 use Rattle.room_model.specs.DayTimes.{show_times}
-use Rattle.room_model.specs.Decisions.{Verdict, changes_of, show, where_active, where_held}
+use Rattle.room_model.specs.Decisions.{Verdict, changes_of, show, where_active, where_found}
+use Rattle.room_model.specs.Decisions.{where_held}
 use Rattle.room_model.specs.Events.{by_desk, is_lend}
 use Rattle.room_model.specs.Incidents.{change_needs, close, lacking, merge, show_incident}
 use Rattle.room_model.specs.Incidents.{show_incidents}
@@ -53,13 +57,13 @@ use Rattle.room_model.specs.Queries.{incidents_opened, is_attended, is_eligible,
 use Rattle.room_model.specs.Queries.{kept_report, last_number, last_serial, lent, link_target}
 use Rattle.room_model.specs.Queries.{loan_at, loans_of, offered_by, offered_to, offers_of}
 use Rattle.room_model.specs.Queries.{open_turn, point_of, points_of, report_of, reports_of, served}
-use Rattle.room_model.specs.Queries.{turns_of}
-use Rattle.room_model.specs.Queries.{vehicle_at}
+use Rattle.room_model.specs.Queries.{turns_of, vehicle_at}
 use Rattle.room_model.specs.Queue.{clear, entries, exception, overdue, shift_over, show_reports}
-use Rattle.room_model.specs.Queue.{slow, slow_turn, unanswered, uncovered, unread, unserved}
+use Rattle.room_model.specs.Queue.{late_for_scene, late_turn, unanswered, uncovered, unacknowledged}
+use Rattle.room_model.specs.Queue.{unserved}
 use Rattle.room_model.specs.Reports.{report_in, report_kept, report_somewhere}
 use Rattle.room_model.specs.Room.{IsInOrder, Room, apply, apply_one}
-use Rattle.room_model.specs.Step.{crew_asks, decided, desk_asks, position_asks, room_after}
+use Rattle.room_model.specs.Step.{decided, desk_asks, position_asks, room_after}
 use Rattle.room_model.specs.Step.{who_asks}
 use Rattle.room_model.specs.Vehicles.{duty, mobilise, off, show_vehicles, stand_down, standby}
 use Rattle.room_model.specs.RoomAgreements.{OfferAgrees}
@@ -95,7 +99,8 @@ module _ (r : Room) where
   desk_alike : (d : ℕ) (a : Ask) (at : ℕ) → speaks_of_offers a ≡ false
       → desk_asks d a at (without_offers r) ≡ desk_asks d a at r
   unfolding show_incidents show_incident propose mobilise change_needs merge close show_vehicles stand_down standby duty
-      off recall give_back clear show_reports show_points show_loans show_times active_incidents all_held assignment_of borrowed
+      off recall give_back clear show_reports show_points show_loans show_times active_incidents all_held assignment_of
+      borrowed
       calls_of held holders incident_of incidents_opened is_attended lent loans_of open_turn point_of points_of
       report_of reports_of served turns_of
   desk_alike d (ask.Propose n) at h =
@@ -138,10 +143,17 @@ module _ (r : Room) where
   kept_alike None c p at = reported_alike (vehicle_at c r) c p at
   kept_alike (Some k) c p at = refl
 
+  job_alike : (o : Option Assignment) → job_in (without_offers r) o ≡ job_in r o
+  unfolding calls_of incident_of
+  job_alike None = refl
+  job_alike (Some a) = refl
+
   crew_alike : (c : Callsign) (a : Ask) (at : ℕ)
-      → crew_asks c a at (without_offers r) ≡ crew_asks c a at r
+      → who_asks (Crew c) a at (without_offers r) ≡ who_asks (Crew c) a at r
   unfolding kept_report vehicle_at assignment_at
   crew_alike c ask.Order at = refl
+  crew_alike c ask.Job at =
+      ap (where_found (vehicle_at c r) NoSuchVehicle) (job_alike (assignment_at c r))
   crew_alike c (ask.Report p) at = kept_alike (kept_report c p.number r) c p at
   crew_alike c a at = refl
 
@@ -247,15 +259,15 @@ cross_alike d e r f = who_crosses_alike d e e.who r f
 
 -- ---- the queue
 turn_alike : (d at : ℕ) (r : Room) (v : Vehicle) (t : Option Turn)
-    → slow_turn d at (without_offers r) v t ≡ slow_turn d at r v t
+    → late_turn d at (without_offers r) v t ≡ late_turn d at r v t
 unfolding incident_of
 turn_alike d at r v None = refl
 turn_alike d at r v (Some t) = refl
 
-slow_alike : (d at : ℕ) (r : Room)
-    → filter_map (slow d at (without_offers r)) r.vehicles ≡ filter_map (slow d at r) r.vehicles
+late_alike : (d at : ℕ) (r : Room)
+    → filter_map (late_for_scene d at (without_offers r)) r.vehicles ≡ filter_map (late_for_scene d at r) r.vehicles
 unfolding open_turn
-slow_alike d at r =
+late_alike d at r =
     ap (λ (f : Vehicle → Option QueueEntry). filter_map f r.vehicles)
     (λ j v. cond (v.holder == d && is_mobilised v.status) (turn_alike d at r v (open_turn d v.callsign r) j) None)
 
@@ -268,14 +280,14 @@ unfolding entries served open_turn holders
 entries_alike d at r =
     let os : List QueueEntry = filter_map (unanswered d at) r.offers in
     more (filter_map (unserved d at r) r.incidents) _ _ os
-    (more (filter_map (unread d at r) r.vehicles) _ _ os
+    (more (filter_map (unacknowledged d at r) r.vehicles) _ _ os
     (ap (λ (xs : List QueueEntry).
     xs
     ++ (filter_map (exception d) r.reports
     ++ (filter_map (overdue d at) r.loans
     ++ (filter_map (shift_over d at) r.vehicles ++ (filter_map (uncovered d at r) r.points ++ os)))))
-    (sym (slow_alike d at r))
-    ∙ more (filter_map (slow d at (without_offers r)) r.vehicles) _ _ os
+    (sym (late_alike d at r))
+    ∙ more (filter_map (late_for_scene d at (without_offers r)) r.vehicles) _ _ os
     (more (filter_map (exception d) r.reports) _ _ os
     (more (filter_map (overdue d at) r.loans) _ _ os
     (more (filter_map (shift_over d at) r.vehicles) _ _ os

@@ -46,7 +46,7 @@ use Rattle.room_model.specs.Reports.{report_held, report_in, report_kept, report
 use Rattle.room_model.specs.Reports.{report_somewhere, turn_changes, with_report}
 use Rattle.room_model.specs.Room.{Room, apply, apply_one}
 use Rattle.room_model.specs.Run.{room_run}
-use Rattle.room_model.specs.Step.{crew_asks, decided, desk_asks, position_asks, room_after}
+use Rattle.room_model.specs.Step.{decided, desk_asks, position_asks, room_after}
 use Rattle.room_model.specs.Step.{who_asks}
 use Rattle.room_model.specs.Vehicles.{duty, mobilise, mobilise_held, mobilised, off, off_duty}
 use Rattle.room_model.specs.Vehicles.{on_duty, stand_down, stand_down_held, standby, standby_at}
@@ -239,7 +239,7 @@ kept_none : (o : Option Report) (c : Callsign) (p : Press) (at : ℕ) (r : Room)
 kept_none None c p at r = reported_none _ c p at r
 kept_none (Some k) c p at r = refused_none _ _ _ tt
 
-crew_none : (c : Callsign) (a : Ask) (at : ℕ) (r : Room) → NoneMade (crew_asks c a at r)
+crew_none : (c : Callsign) (a : Ask) (at : ℕ) (r : Room) → NoneMade (who_asks (Crew c) a at r)
 crew_none c (ask.Report p) at r = kept_none _ c p at r
 crew_none c a at r = quiet_none (Crew c) a at r refl
 

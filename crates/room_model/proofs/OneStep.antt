@@ -9,7 +9,7 @@ use Rattle.room_types.specs.declared.asks.Who.{Who}
 use Rattle.room_types.specs.declared.asks.Who.TheVariants.{Crew, Desk, Position}
 use Rattle.room_types.specs.declared.tables.Call.{Call}
 use Rattle.room_model.proofs.CallsApart.{call_equal}
-use Rattle.room_model.proofs.CrewLaws.{mine_answer}
+use Rattle.room_model.proofs.CrewLaws.{crew_alike}
 use Rattle.room_model.proofs.OwnDesk.{desk_equal}
 use Rattle.room_model.specs.Calls.{call_kept, call_somewhere, new_call, take_call}
 use Rattle.room_model.specs.Decisions.{show}
@@ -43,7 +43,7 @@ module _ (r s : Room) (w : IsWellFormed r) (v : IsWellFormed s) where
   who_alike : (who : Who) (a : Ask) (at : ℕ) → AgreeOn who a r s
       → who_asks who a at r ≡ who_asks who a at s
   who_alike (Desk d) a at agree = desk_equal d a at r s w.order v.order agree
-  who_alike (Crew c) a at agree = mine_answer c a at r s w.order v.order agree
+  who_alike (Crew c) a at agree = crew_alike c r s w.order v.order a at agree
   who_alike (Position p) (ask.Call f) at agree = kept_alike p f at agree (kept_call p f.serial r) refl
   who_alike (Position p) ask.Last at agree = ap (λ n. show (answer.LastSerial n)) agree
   who_alike (Position p) a at agree = refl

@@ -36,12 +36,15 @@ use Rattle.room_model.specs.Queries.{active_incidents, borrowed, calls_of, held,
 use Rattle.room_model.specs.Queries.{incidents_opened, is_attended, is_candidate, is_given}
 use Rattle.room_model.specs.Queries.{is_nearer, last_number, link_target, open_turn, report_of}
 use Rattle.room_model.specs.Queries.{reports_of, served, turns_of}
-use Rattle.room_model.specs.Queue.{entries, exception, overdue, shift_over, slow, slow_incident}
-use Rattle.room_model.specs.Queue.{slow_turn, unanswered, uncovered, unread, unread_turn, unserved}
+use Rattle.room_model.specs.Queue.{entries, exception, overdue, shift_over, late_for_scene}
+use Rattle.room_model.specs.Queue.{late_incident, late_turn, unanswered, uncovered, unacknowledged}
+use Rattle.room_model.specs.Queue.{unacknowledged_turn, unserved}
 use Rattle.room_model.specs.Reports.{report_held, report_in}
 use Rattle.room_model.specs.Room.{IsInOrder, Room}
 use Rattle.room_model.specs.Shares.{own}
 use Rattle.room_model.specs.Step.{desk_asks}
+use Rattle.room_types.specs.Ranks.{is_past}
+use Rattle.room_types.specs.declared.ranks.Rank.TheVariants as rank
 
 module _ (d : ℕ) (r : Room) (in_order : IsInOrder r) where
   pub sees_own : SeesVehicles d (own d r) r
@@ -138,31 +141,33 @@ module _ (d : ℕ) (r : Room) (in_order : IsInOrder r) where
       cond (i.division == d
       && (is_active i.state
       && ((served_own i.number Ambulance j == 0
-      && (served_own i.number Car j == 0 && served_own i.number Support j == 0)) && nat_lt 180 (age at i.opened))))
-      (Some (record { rank = 1; since = i.opened; number = i.number; callsign = None })) None)
+      && (served_own i.number Car j == 0 && served_own i.number Support j == 0))
+      && is_past rank.Unserved (age at i.opened))))
+      (Some (record { rank = rank.Unserved; since = i.opened; number = i.number; callsign = None })) None)
       ∙ filter_map_filter (unserved d at r) (owns_incident d) r.incidents (λ i h. off_share (i.division == d) _ _ h)
 
-  unread_own : (at : ℕ) → filter_map (unread d at (own d r)) (filter (owns_vehicle d) r.vehicles)
-      ≡ filter_map (unread d at r) r.vehicles
-  unread_own at =
+  unacknowledged_own : (at : ℕ) → filter_map (unacknowledged d at (own d r)) (filter (owns_vehicle d) r.vehicles)
+      ≡ filter_map (unacknowledged d at r) r.vehicles
+  unacknowledged_own at =
       ap (λ (f : Vehicle → Option QueueEntry). filter_map f (filter (owns_vehicle d) r.vehicles))
-      (λ j v. cond (v.holder == d && is_mobilised v.status) (unread_turn at v (turn_own v.callsign j)) None)
-      ∙ filter_map_filter (unread d at r) (owns_vehicle d) r.vehicles (λ v h. off_share (v.holder == d) _ _ h)
+      (λ j v. cond (v.holder == d && is_mobilised v.status) (unacknowledged_turn at v (turn_own v.callsign j)) None)
+      ∙ filter_map_filter (unacknowledged d at r) (owns_vehicle d) r.vehicles (λ v h. off_share (v.holder == d) _ _ h)
 
-  slow_same : (at : ℕ) (v : Vehicle) → slow d at (own d r) v ≡ slow d at r v
-  slow_same at v =
-      ap (λ o. cond (v.holder == d && is_mobilised v.status) (slow_turn d at (own d r) v o) None) (turn_own v.callsign)
-      ∙ ap (λ o. cond (v.holder == d && is_mobilised v.status) o None) (slow_turn_same (open_turn d v.callsign r))
+  late_same : (at : ℕ) (v : Vehicle) → late_for_scene d at (own d r) v ≡ late_for_scene d at r v
+  late_same at v =
+      ap (λ o. cond (v.holder == d && is_mobilised v.status) (late_turn d at (own d r) v o) None) (turn_own v.callsign)
+      ∙ ap (λ o. cond (v.holder == d && is_mobilised v.status) o None) (late_turn_same (open_turn d v.callsign r))
     where
-      slow_turn_same : (o : Option Turn) → slow_turn d at (own d r) v o ≡ slow_turn d at r v o
-      slow_turn_same None = refl
-      slow_turn_same (Some t) = ap (slow_incident at v) (incident_own t.incident)
+      late_turn_same : (o : Option Turn) → late_turn d at (own d r) v o ≡ late_turn d at r v o
+      late_turn_same None = refl
+      late_turn_same (Some t) = ap (late_incident at v) (incident_own t.incident)
 
-  slow_own : (at : ℕ) → filter_map (slow d at (own d r)) (filter (owns_vehicle d) r.vehicles)
-      ≡ filter_map (slow d at r) r.vehicles
-  slow_own at =
-      filter_map_among (slow d at (own d r)) (slow d at r) (filter (owns_vehicle d) r.vehicles) (λ v m. slow_same at v)
-      ∙ filter_map_filter (slow d at r) (owns_vehicle d) r.vehicles (λ v h. off_share (v.holder == d) _ _ h)
+  late_own : (at : ℕ) → filter_map (late_for_scene d at (own d r)) (filter (owns_vehicle d) r.vehicles)
+      ≡ filter_map (late_for_scene d at r) r.vehicles
+  late_own at =
+      filter_map_among (late_for_scene d at (own d r)) (late_for_scene d at r) (filter (owns_vehicle d) r.vehicles)
+      (λ v m. late_same at v)
+      ∙ filter_map_filter (late_for_scene d at r) (owns_vehicle d) r.vehicles (λ v h. off_share (v.holder == d) _ _ h)
 
   exception_own : filter_map (exception d) (filter (owns_report d) r.reports)
       ≡ filter_map (exception d) r.reports
@@ -183,7 +188,7 @@ module _ (d : ℕ) (r : Room) (in_order : IsInOrder r) where
       ap (λ (f : Point → Option QueueEntry). filter_map f (filter (owns_point d) r.points))
       (λ j p.
       cond (p.division == d && nat_lt (length (sees_own.same_holders p.number at j)) p.cover)
-      (Some (record { rank = 7; since = 0; number = p.number; callsign = None })) None)
+      (Some (record { rank = rank.Uncovered; since = 0; number = p.number; callsign = None })) None)
       ∙ filter_map_filter (uncovered d at r) (owns_point d) r.points (λ p h. off_share (p.division == d) _ _ h)
 
   unanswered_own : (at : ℕ) → filter_map (unanswered d at) (filter (owns_offer d) r.offers)
@@ -195,8 +200,8 @@ module _ (d : ℕ) (r : Room) (in_order : IsInOrder r) where
   unfolding entries
   entries_own at i =
       unserved_own at i
-      ++ (unread_own at i
-      ++ (slow_own at i
+      ++ (unacknowledged_own at i
+      ++ (late_own at i
       ++ (exception_own i ++ (overdue_own at i ++ (shift_own at i ++ (uncovered_own at i ++ unanswered_own at i))))))
 
   -- ---- the decisions

@@ -9,21 +9,24 @@ use Rattle.room_types.specs.declared.asks.Who.{Who}
 use Rattle.room_types.specs.declared.asks.Who.TheVariants.{Crew, Desk, Position}
 use Rattle.room_types.specs.declared.changes.Change.{Change}
 use Rattle.room_types.specs.declared.refusal_statuses.Refusal.{Refusal}
+use Rattle.room_types.specs.declared.tables.Assignment.{Assignment}
 use Rattle.room_types.specs.declared.tables.Call.{Call}
 use Rattle.room_types.specs.declared.tables.Incident.{Incident}
 use Rattle.room_types.specs.declared.tables.Loan.{Loan}
 use Rattle.room_types.specs.declared.tables.Vehicle.{Vehicle}
 use Rattle.room_model.proofs.DecisionLaws.{by_refuse}
 use Rattle.room_model.proofs.Tests.{or_left}
+use Rattle.room_model.specs.CrewJobs.{job_in}
 use Rattle.room_model.specs.DayTimes.{show_times}
 use Rattle.room_model.specs.Decisions.{Verdict, changes_of, where_active, where_found, where_held}
 use Rattle.room_model.specs.Incidents.{show_incident, show_incidents}
 use Rattle.room_model.specs.Loans.{show_loans, show_offers}
 use Rattle.room_model.specs.Points.{show_points}
 use Rattle.room_model.specs.Proposals.{propose}
+use Rattle.room_model.specs.Queries.{assignment_at, vehicle_at}
 use Rattle.room_model.specs.Queue.{show_queue, show_reports}
 use Rattle.room_model.specs.Room.{Room, apply}
-use Rattle.room_model.specs.Step.{crew_asks, desk_asks, is_of_role, is_question, position_asks}
+use Rattle.room_model.specs.Step.{desk_asks, is_of_role, is_question, position_asks}
 use Rattle.room_model.specs.Step.{room_after, who_asks}
 use Rattle.room_model.specs.Vehicles.{show_vehicles}
 use Rattle.room_types.specs.declared.asks.Ask.TheVariants as ask
@@ -61,8 +64,14 @@ module _ (at : ℕ) (r : Room) where
   desk_shows d (ask.Call f) h = refl
   desk_shows d a h = first_of (cc, search by_form depth 9)
 
-  crew_shows : (c : Callsign) (a : Ask) → IsQuiet (Crew c) a → ChangesNothing (crew_asks c a at r)
+  job_shows : (o : Option Assignment) (v : Vehicle) → ChangesNothing (job_in r o v)
+  job_shows None v = refl
+  job_shows (Some a) v = search by_form depth 9
+
+  crew_shows : (c : Callsign) (a : Ask) → IsQuiet (Crew c) a → ChangesNothing (who_asks (Crew c) a at r)
   crew_shows c (ask.Report p) h = cc
+  crew_shows c ask.Job h =
+      by_found (vehicle_at c r) refusal.NoSuchVehicle (job_in r (assignment_at c r)) (job_shows (assignment_at c r))
   crew_shows c a h = first_of (cc, search by_form depth 9)
 
   position_shows : (p : ℕ) (a : Ask) → IsQuiet (Position p) a

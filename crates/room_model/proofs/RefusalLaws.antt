@@ -8,6 +8,7 @@ use Rattle.room_types.specs.declared.asks.Press.{Press}
 use Rattle.room_types.specs.declared.asks.Who.{Who}
 use Rattle.room_types.specs.declared.asks.Who.TheVariants.{Crew, Desk, Position}
 use Rattle.room_types.specs.declared.refusal_statuses.Refusal.{Refusal}
+use Rattle.room_types.specs.declared.tables.Assignment.{Assignment}
 use Rattle.room_types.specs.declared.tables.Call.{Call}
 use Rattle.room_types.specs.declared.tables.Division.{Division}
 use Rattle.room_types.specs.declared.tables.Incident.{Incident}
@@ -20,6 +21,7 @@ use Rattle.room_types.specs.Texts.{Callsign}
 use Rattle.room_model.proofs.DecisionLaws.{by_report}
 use Rattle.room_model.specs.Calls.{call_in, call_kept, call_new, call_somewhere, call_taken}
 use Rattle.room_model.specs.Calls.{new_call}
+use Rattle.room_model.specs.CrewJobs.{job_in}
 use Rattle.room_model.specs.DayTimes.{show_times}
 use Rattle.room_model.specs.Decisions.{Verdict, answer_of, refuse_if, where_active, where_found}
 use Rattle.room_model.specs.Decisions.{where_held}
@@ -29,10 +31,11 @@ use Rattle.room_model.specs.Loans.{accept, accepted, decline, declined, give_bac
 use Rattle.room_model.specs.Loans.{recall_lent, show_loans, show_offers, withdraw, withdrawn}
 use Rattle.room_model.specs.Points.{show_points}
 use Rattle.room_model.specs.Proposals.{propose}
+use Rattle.room_model.specs.Queries.{assignment_at, vehicle_at}
 use Rattle.room_model.specs.Queue.{clear, clear_found, show_queue, show_reports}
 use Rattle.room_model.specs.Reports.{report_held, report_in, report_kept, report_somewhere}
 use Rattle.room_model.specs.Room.{Room}
-use Rattle.room_model.specs.Step.{answer_to, crew_asks, desk_asks, is_of_role, is_of_the_room}
+use Rattle.room_model.specs.Step.{answer_to, desk_asks, is_of_role, is_of_the_room}
 use Rattle.room_model.specs.Step.{position_asks, who_asks}
 use Rattle.room_model.specs.Vehicles.{duty, mobilise, off, show_vehicles, stand_down, standby}
 use Rattle.room_model.specs.Vehicles.{standby_at}
@@ -162,9 +165,15 @@ module _ (r : Room) where
   by_report_number None c p at = by_holder _ c p at
   by_report_number (Some k) c p at = by_test _ _ _ refl tt
 
+  by_job : (o : Option Assignment) (v : Vehicle) → Refuses (job_in r o v)
+  by_job None v = tt
+  by_job (Some a) v = search by_form depth 9
+
   crew_refuses : (c : Callsign) (a : Ask) (at : ℕ) → is_of_role (Crew c) a ≡ true
-      → Refuses (crew_asks c a at r)
+      → Refuses (who_asks (Crew c) a at r)
   crew_refuses c (ask.Report p) at h = by_report_number _ c p at
+  crew_refuses c ask.Job at h =
+      by_found (vehicle_at c r) refusal.NoSuchVehicle (job_in r (assignment_at c r)) refl (by_job (assignment_at c r))
   crew_refuses c a at h = first_of (cc, search by_form depth 9)
 
   who_refuses : (who : Who) (a : Ask) (at : ℕ) → is_of_role who a ≡ true
@@ -178,6 +187,7 @@ module _ (r : Room) where
       → desk_asks d a at r ≡ Err refusal.WrongRole
   desk_wrong d (ask.Call f) at h = refl
   desk_wrong d ask.Order at h = refl
+  desk_wrong d ask.Job at h = refl
   desk_wrong d (ask.Report p) at h = refl
   desk_wrong d ask.Last at h = refl
   desk_wrong d a at h = cc
@@ -189,8 +199,9 @@ module _ (r : Room) where
   position_wrong p a at h = refl
 
   crew_wrong : (c : Callsign) (a : Ask) (at : ℕ) → is_of_role (Crew c) a ≡ false
-      → crew_asks c a at r ≡ Err refusal.WrongRole
+      → who_asks (Crew c) a at r ≡ Err refusal.WrongRole
   crew_wrong c ask.Order at h = cc
+  crew_wrong c ask.Job at h = cc
   crew_wrong c (ask.Report p) at h = cc
   crew_wrong c ask.Last at h = cc
   crew_wrong c a at h = refl

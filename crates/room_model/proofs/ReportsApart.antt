@@ -46,7 +46,7 @@ use Rattle.room_model.specs.Reports.{turn_after, turn_changes, vehicle_after, wi
 use Rattle.room_model.specs.Room.{IsInOrder, Room, apply, apply_one}
 use Rattle.room_model.proofs.ShareChanges.{share_after}
 use Rattle.room_model.specs.Shares.{ArePlain, IsPlain, own}
-use Rattle.room_model.specs.Step.{crew_asks, room_after}
+use Rattle.room_model.specs.Step.{room_after, who_asks}
 use Rattle.room_model.specs.RoomAgreements.{IsWellFormed}
 use Rattle.room_types.specs.declared.answers.Answer.TheVariants as answer
 use Rattle.room_types.specs.declared.asks.Ask.TheVariants as ask
@@ -376,7 +376,7 @@ module _ (d : ℕ) (r : Room) (w : IsWellFormed r) (c : Callsign) (at : ℕ) whe
   report_event p None e = placed p (vehicle_at c r) e refl
   report_event p (Some k) e = by_refuse (λ x. own d (apply r (changes_of x)) ≡ own d r) _ _ _ refl (λ f. refl)
 
-  pub crew_event : (a : Ask) → own d (apply r (changes_of (crew_asks c a at r)))
+  pub crew_event : (a : Ask) → own d (apply r (changes_of (who_asks (Crew c) a at r)))
       ≡ share_by d (own d r) (cross_crew d c (sent a) a r)
   crew_event (ask.Report p) = report_event p (kept_report c p.number r) refl
   crew_event a = ap (λ cs. own d (apply r cs)) (quiet_shows at r (Crew c) a refl)

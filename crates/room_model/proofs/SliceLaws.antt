@@ -147,6 +147,47 @@ open_kept true is p (Some x) =
     (elim (p x) as (λ (b : Bool). keep is (cond b (Some x) None) ≡ cond b (keep is (Some x)) None)
     [ true ↦ refl | false ↦ refl ])
 
+-- ---- the incident of an order
+module _ (r : Room) (formed : IsWellFormed r) where
+  turn_order : (c : Callsign) (n : ℕ)
+      → IfSome (row_at numbered_cmp turn_key r.turns (c, n)) (λ t. t.order ≡ n)
+  turn_order c n =
+      if_then (λ t. turn_key t ≡ (c, n)) (λ t. t.order ≡ n) (row_at numbered_cmp turn_key r.turns (c, n))
+      (λ t e. ap (λ (k : Callsign × ℕ). k.1) e)
+      (row_key numbered_cmp turn_key numbered_total exact_numbered r.turns (c, n))
+
+  assigned_active : (v : Vehicle) (a : Assignment) (t : Option Turn) → a.division ≡ v.holder
+      → is_busy v.status ≡ true → a.order ≡ v.last_order → room.TurnAgrees (Some v) v.last_order t
+      → room.SameIncident (Some a) t → IfSome t (λ x. x.order ≡ v.last_order)
+      → room.TurnIsActive r t
+      → IsActive (row_at pair_cmp incident_key r.incidents (a.division, a.incident))
+  assigned_active v a None held busy last ordered same numbered active = let idle = ordered refl in cc
+  assigned_active v a (Some t) held busy last ordered same numbered active =
+      let found = open_busy v v.last_order t t.ended ordered.2 refl busy in
+      subst (λ n. IsActive (row_at pair_cmp incident_key r.incidents (n, a.incident))) (found.1 ∙ sym held)
+      (subst (λ n. IsActive (row_at pair_cmp incident_key r.incidents (t.division, n))) (same (numbered ∙ sym last))
+      (active found.0))
+
+  -- it is active
+  pub order_active : (c : Callsign) (a : Assignment)
+      → row_at callsign_cmp assignment_key r.assignments c ≡ Some a
+      → IsActive (row_at pair_cmp incident_key r.incidents (a.division, a.incident))
+  order_active c a e =
+      (elim (row_at callsign_cmp vehicle_key r.vehicles c) as (λ o.
+      row_at callsign_cmp vehicle_key r.vehicles c ≡ o → room.AssignmentAgrees o (Some a)
+      → IsActive (row_at pair_cmp incident_key r.incidents (a.division, a.incident))) [
+        | None ↦ λ f h. absurd h
+        | Some v ↦ λ f h.
+            let ordered = subst
+            (λ o. room.TurnAgrees o v.last_order (row_at numbered_cmp turn_key r.turns (c, v.last_order))) f
+            (formed.turns c v.last_order) in
+            let same = subst (λ o. room.SameIncident o (row_at numbered_cmp turn_key r.turns (c, v.last_order))) e
+            (formed.same_incident c v.last_order) in
+            assigned_active v a _ h.1 h.0 h.2 ordered same (turn_order c v.last_order)
+            (formed.active c v.last_order)
+      ]) refl
+      (subst (λ o. room.AssignmentAgrees (row_at callsign_cmp vehicle_key r.vehicles c) o) e (formed.assignments c))
+
 -- which rows are read: the division's, of each table
 record Reads (d : ℕ) : Type 0 where
   division : Division → Bool
@@ -199,13 +240,6 @@ module _ (d : ℕ) (r : Room) (formed : IsWellFormed r) (reads : Reads d) where
       → turn_at c n read_rows ≡ keep reads.turn (row_at numbered_cmp turn_key r.turns (c, n))
   turn_row c n = row_filter numbered_cmp turn_key numbered_total reads.turn r.turns (c, n) formed.order.turns
 
-  turn_order : (c : Callsign) (n : ℕ)
-      → IfSome (row_at numbered_cmp turn_key r.turns (c, n)) (λ t. t.order ≡ n)
-  turn_order c n =
-      if_then (λ t. turn_key t ≡ (c, n)) (λ t. t.order ≡ n) (row_at numbered_cmp turn_key r.turns (c, n))
-      (λ t e. ap (λ (k : Callsign × ℕ). k.1) e)
-      (row_key numbered_cmp turn_key numbered_total exact_numbered r.turns (c, n))
-
   -- ---- at each callsign
   vehicle_agreed : (c : Callsign) (v : Vehicle)
       → row_at callsign_cmp vehicle_key r.vehicles c ≡ Some v → VehicleAgrees read_rows c v
@@ -230,25 +264,14 @@ module _ (d : ℕ) (r : Room) (formed : IsWellFormed r) (reads : Reads d) where
       (subst (PartsAgree v (cond (passed reads.assignment (row_at callsign_cmp assignment_key r.assignments c))
       (row_at callsign_cmp assignment_key r.assignments c) None)) (sym same_turn)
       (parts_of v _ _
-      (sent_in_room v _ _ assigned ordered (formed.same_incident c v.last_order) (turn_order c v.last_order)) _ _))
+      (sent_in_room v _ _ assigned ordered (formed.same_incident c v.last_order)
+      (turn_order r formed c v.last_order)) _ _))
 
   vehicles_agreed : (c : Callsign) → IfSome (vehicle_at c read_rows) (VehicleAgrees read_rows c)
   vehicles_agreed c =
       subst (λ o. IfSome o (VehicleAgrees read_rows c)) (sym (vehicle_row c))
       (if_kept reads.vehicle (VehicleAgrees read_rows c) (row_at callsign_cmp vehicle_key r.vehicles c)
       (λ v e passes. vehicle_agreed c v e))
-
-  assigned_active : (v : Vehicle) (a : Assignment) (t : Option Turn) → a.division ≡ v.holder
-      → is_busy v.status ≡ true → a.order ≡ v.last_order → room.TurnAgrees (Some v) v.last_order t
-      → room.SameIncident (Some a) t → IfSome t (λ x. x.order ≡ v.last_order)
-      → room.TurnIsActive r t
-      → IsActive (row_at pair_cmp incident_key r.incidents (a.division, a.incident))
-  assigned_active v a None held busy last ordered same numbered active = let idle = ordered refl in cc
-  assigned_active v a (Some t) held busy last ordered same numbered active =
-      let found = open_busy v v.last_order t t.ended ordered.2 refl busy in
-      subst (λ n. IsActive (row_at pair_cmp incident_key r.incidents (n, a.incident))) (found.1 ∙ sym held)
-      (subst (λ n. IsActive (row_at pair_cmp incident_key r.incidents (t.division, n))) (same (numbered ∙ sym last))
-      (active found.0))
 
   -- an active incident that is read is active
   active_read : (o : Option Incident) → IsActive o
@@ -260,23 +283,9 @@ module _ (d : ℕ) (r : Room) (formed : IsWellFormed r) (reads : Reads d) where
   assignment_agreed : (c : Callsign) (a : Assignment)
       → row_at callsign_cmp assignment_key r.assignments c ≡ Some a → AssignmentAgrees read_rows a
   assignment_agreed c a e =
-      (elim (row_at callsign_cmp vehicle_key r.vehicles c) as (λ o.
-      row_at callsign_cmp vehicle_key r.vehicles c ≡ o → room.AssignmentAgrees o (Some a)
-      → AssignmentAgrees read_rows a) [
-        | None ↦ λ f h. absurd h
-        | Some v ↦ λ f h.
-            let ordered = subst
-            (λ o. room.TurnAgrees o v.last_order (row_at numbered_cmp turn_key r.turns (c, v.last_order))) f
-            (formed.turns c v.last_order) in
-            let same = subst (λ o. room.SameIncident o (row_at numbered_cmp turn_key r.turns (c, v.last_order))) e
-            (formed.same_incident c v.last_order) in
-            let active = assigned_active v a _ h.1 h.0 h.2 ordered same (turn_order c v.last_order)
-            (formed.active c v.last_order) in
-            subst (λ o. IfSome o (λ i. is_active i.state ≡ true))
-            (sym (row_filter pair_cmp incident_key pairs_total reads.incident r.incidents (a.division, a.incident)
-            formed.order.incidents)) (active_read _ active)
-      ]) refl
-      (subst (λ o. room.AssignmentAgrees (row_at callsign_cmp vehicle_key r.vehicles c) o) e (formed.assignments c))
+      subst (λ o. IfSome o (λ i. is_active i.state ≡ true))
+      (sym (row_filter pair_cmp incident_key pairs_total reads.incident r.incidents (a.division, a.incident)
+      formed.order.incidents)) (active_read _ (order_active r formed c a e))
 
   assignments_agreed : (c : Callsign)
       → IfSome (assignment_at c read_rows) (AssignmentAgrees read_rows)
@@ -296,7 +305,7 @@ module _ (d : ℕ) (r : Room) (formed : IsWellFormed r) (reads : Reads d) where
   turn_agreed : (c : Callsign) (n : ℕ) (t : Turn)
       → row_at numbered_cmp turn_key r.turns (c, n) ≡ Some t → TurnAgrees read_rows c t
   turn_agreed c n t e =
-      let numbered : t.order ≡ n = subst (λ o. IfSome o (λ x. x.order ≡ n)) e (turn_order c n) in
+      let numbered : t.order ≡ n = subst (λ o. IfSome o (λ x. x.order ≡ n)) e (turn_order r formed c n) in
       (elim (row_at callsign_cmp vehicle_key r.vehicles c) as (λ o.
       row_at callsign_cmp vehicle_key r.vehicles c ≡ o → room.TurnAgrees o n (Some t) → TurnAgrees read_rows c t) [
         | None ↦ λ f h. absurd h

@@ -29,7 +29,7 @@ use Rattle.room_model.specs.Loans.{recall, recall_lent, withdraw, withdrawn}
 use Rattle.room_model.specs.Queries.{borrowed, held, lent, offered_by, offered_to}
 use Rattle.room_model.specs.Room.{Room, apply, apply_one}
 use Rattle.room_model.specs.Run.{room_run}
-use Rattle.room_model.specs.Step.{crew_asks, decided, desk_asks, position_asks, room_after}
+use Rattle.room_model.specs.Step.{decided, desk_asks, position_asks, room_after}
 use Rattle.room_model.specs.Step.{who_asks}
 use Rattle.room_model.specs.RoomAgreements.{IsWellFormed, LoanAgrees}
 use Rattle.room_types.specs.declared.asks.Ask.TheVariants as ask
@@ -166,11 +166,11 @@ module _ (r : Room) (w : IsWellFormed r) (u : IsUnlent r) where
   position_step p a at = (refl, position_leaves p a at)
 
   crew_leaves : (c : Callsign) (a : Ask) (at : ℕ)
-      → IsUnlent (apply r (changes_of (crew_asks c a at r)))
+      → IsUnlent (apply r (changes_of (who_asks (Crew c) a at r)))
   crew_leaves c a at =
-      apply_leaves r (changes_of (crew_asks c a at r)) (crew_all r LeavesUnlent (leaves_allowed r) c a at) u
+      apply_leaves r (changes_of (who_asks (Crew c) a at r)) (crew_all r LeavesUnlent (leaves_allowed r) c a at) u
 
-  crew_step : (c : Callsign) (a : Ask) (at : ℕ) → IsStep a (crew_asks c a at r)
+  crew_step : (c : Callsign) (a : Ask) (at : ℕ) → IsStep a (who_asks (Crew c) a at r)
   crew_step c (ask.Report p) at = (refl, crew_leaves c (ask.Report p) at)
   crew_step c a at = (refl, crew_leaves c a at)
 

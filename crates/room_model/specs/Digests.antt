@@ -5,9 +5,9 @@ use Rattle.room_types.specs.declared.fleet.Terminal.{Terminal}
 use Rattle.room_types.specs.declared.refusal_statuses.Refusal.{Refusal}
 use Rattle.room_model.specs.Room.{Room}
 use Rattle.room_model.specs.Rooms.{IsUnavailable}
-use Rattle.room_model.specs.declared.digests.Head.{Head}
-use Rattle.room_model.specs.declared.digests.Miss.{Miss}
-use Rattle.room_model.specs.declared.digests.Miss.TheVariants.{OtherDigest, Unavailable}
+use Rattle.room_model.specs.declared.digests.StartDigest.{StartDigest}
+use Rattle.room_model.specs.declared.digests.DigestMismatch.{DigestMismatch}
+use Rattle.room_model.specs.declared.digests.DigestMismatch.TheVariants.{OtherDigest, Unavailable}
 use Rattle.room_model.specs.declared.digests.Version.{Version}
 
 -- the digests of a room's rows, with its terminals, in digits, one of each version
@@ -20,9 +20,9 @@ digits_of digest_of zone version terminals room =
     encode_lower (digest_of version zone terminals room)
 
 -- the head says of this room: its digits are those of the room's digest of its version
-abbrev pub IsHeadOf : DigitsOf → Head → List Terminal → Room → Type 0
+abbrev pub IsHeadOf : DigitsOf → StartDigest → List Terminal → Room → Type 0
 IsHeadOf digits_of head terminals room = digits_of head.version terminals room ≡ head.digits
 
 -- it would come to another one, or memory or storage fails
-abbrev pub IsMiss : Miss → Type 0
+abbrev pub IsMiss : DigestMismatch → Type 0
 IsMiss miss = (miss ≡ OtherDigest) ⊎ ((r : Refusal) × (miss ≡ Unavailable r) × IsUnavailable r)

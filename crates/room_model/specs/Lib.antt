@@ -44,6 +44,7 @@ pub mod Queue
 pub mod DayTimes
 -- a crew's asks
 pub mod Reports
+pub mod CrewJobs
 -- ---- what the engine serves and the store implements
 -- what a room does with an event, and who shows a token
 pub mod Rooms
@@ -59,6 +60,7 @@ pub mod PlaceExamples
 pub mod CallExamples
 pub mod IncidentExamples
 pub mod VehicleExamples
+pub mod JobExamples
 pub mod LoansAndOffers
 pub mod ReportExamples
 pub mod ProposalExamples

@@ -15,13 +15,14 @@ use Rattle.room_types.specs.declared.tables.Report.{Report}
 use Rattle.room_types.specs.declared.tables.Turn.{Turn}
 use Rattle.room_types.specs.declared.tables.Vehicle.{Vehicle}
 use Rattle.room_types.specs.Texts.{Callsign}
+use Rattle.room_types.specs.Ranks.{is_past}
 use Rattle.room_types.specs.Codes.{is_active, is_exception, is_mobilised, is_normal, is_off}
 use Rattle.room_model.specs.Decisions.{Verdict, done, refuse_if, show}
 use Rattle.room_model.specs.Moments.{age, scene_limit}
-use Rattle.room_model.specs.Queries.{holders, incident_of, open_turn, report_of, reports_of}
-use Rattle.room_model.specs.Queries.{served}
+use Rattle.room_model.specs.Queries.{holders, incident_of, open_turn, report_of, reports_of, served}
 use Rattle.room_model.specs.Room.{Room}
 use Rattle.room_types.specs.declared.answers.Answer.TheVariants as answer
+use Rattle.room_types.specs.declared.ranks.Rank.TheVariants as rank
 use Rattle.room_types.specs.declared.refusal_statuses.Refusal.TheVariants as refusal
 
 -- 1: an active incident that nobody serves
@@ -32,53 +33,53 @@ is_unserved d n r =
 abbrev pub unserved : ℕ → ℕ → Room → Incident → Option QueueEntry
 unserved d at r i = cond
     (i.division == d
-    && (is_active i.state && (is_unserved d i.number r && nat_lt 180 (age at i.opened))))
+    && (is_active i.state && (is_unserved d i.number r && is_past rank.Unserved (age at i.opened))))
     (Some (record {
-      rank = 1;
+      rank = rank.Unserved;
       since = i.opened;
       number = i.number;
       callsign = None;
     })) None
 
 -- 2: an order that is not acknowledged
-abbrev pub unread_turn : ℕ → Vehicle → Option Turn → Option QueueEntry
-unread_turn at v None = None
-unread_turn at v (Some t) = cond (is_none t.acknowledged && nat_lt 60 (age at t.ordered))
+abbrev pub unacknowledged_turn : ℕ → Vehicle → Option Turn → Option QueueEntry
+unacknowledged_turn at v None = None
+unacknowledged_turn at v (Some t) = cond (is_none t.acknowledged && is_past rank.Unacknowledged (age at t.ordered))
     (Some (record {
-      rank = 2;
+      rank = rank.Unacknowledged;
       since = t.ordered;
       number = t.incident;
       callsign = Some v.callsign;
     })) None
 
-abbrev pub unread : ℕ → ℕ → Room → Vehicle → Option QueueEntry
-unread d at r v = cond (v.holder == d && is_mobilised v.status)
-    (unread_turn at v (open_turn d v.callsign r)) None
+abbrev pub unacknowledged : ℕ → ℕ → Room → Vehicle → Option QueueEntry
+unacknowledged d at r v = cond (v.holder == d && is_mobilised v.status)
+    (unacknowledged_turn at v (open_turn d v.callsign r)) None
 
 -- 3: a vehicle that is on its way for too long
-abbrev pub slow_incident : ℕ → Vehicle → Option Incident → Option QueueEntry
-slow_incident at v None = None
-slow_incident at v (Some i) = cond (nat_lt (scene_limit i.class) (age at i.opened))
+abbrev pub late_incident : ℕ → Vehicle → Option Incident → Option QueueEntry
+late_incident at v None = None
+late_incident at v (Some i) = cond (nat_lt (scene_limit i.class) (age at i.opened))
     (Some (record {
-      rank = 3;
+      rank = rank.LateForScene;
       since = i.opened;
       number = i.number;
       callsign = Some v.callsign;
     })) None
 
-abbrev pub slow_turn : ℕ → ℕ → Room → Vehicle → Option Turn → Option QueueEntry
-slow_turn d at r v None = None
-slow_turn d at r v (Some t) = slow_incident at v (incident_of d t.incident r)
+abbrev pub late_turn : ℕ → ℕ → Room → Vehicle → Option Turn → Option QueueEntry
+late_turn d at r v None = None
+late_turn d at r v (Some t) = late_incident at v (incident_of d t.incident r)
 
-abbrev pub slow : ℕ → ℕ → Room → Vehicle → Option QueueEntry
-slow d at r v = cond (v.holder == d && is_mobilised v.status)
-    (slow_turn d at r v (open_turn d v.callsign r)) None
+abbrev pub late_for_scene : ℕ → ℕ → Room → Vehicle → Option QueueEntry
+late_for_scene d at r v = cond (v.holder == d && is_mobilised v.status)
+    (late_turn d at r v (open_turn d v.callsign r)) None
 
 -- 4: a report out of turn
 abbrev pub exception : ℕ → Report → Option QueueEntry
 exception d x = cond (x.division == d && is_exception x)
     (Some (record {
-      rank = 4;
+      rank = rank.OutOfTurn;
       since = x.at;
       number = x.number;
       callsign = Some x.callsign;
@@ -88,7 +89,7 @@ exception d x = cond (x.division == d && is_exception x)
 abbrev pub overdue : ℕ → ℕ → Loan → Option QueueEntry
 overdue d at l = cond (owns_loan d l && nat_lt l.until at)
     (Some (record {
-      rank = 5;
+      rank = rank.Overdue;
       since = l.until;
       number = cond (l.lender == d) l.borrower l.lender;
       callsign = Some l.callsign;
@@ -98,7 +99,7 @@ overdue d at l = cond (owns_loan d l && nat_lt l.until at)
 abbrev pub shift_over : ℕ → ℕ → Vehicle → Option QueueEntry
 shift_over d at v = cond (v.holder == d && (not (is_off v.status) && nat_le v.shift_end at))
     (Some (record {
-      rank = 6;
+      rank = rank.ShiftOver;
       since = v.shift_end;
       number = 0;
       callsign = Some v.callsign;
@@ -108,7 +109,7 @@ shift_over d at v = cond (v.holder == d && (not (is_off v.status) && nat_le v.sh
 abbrev pub uncovered : ℕ → ℕ → Room → Point → Option QueueEntry
 uncovered d at r p = cond (p.division == d && nat_lt (length (holders d p.number at r)) p.cover)
     (Some (record {
-      rank = 7;
+      rank = rank.Uncovered;
       since = 0;
       number = p.number;
       callsign = None;
@@ -116,9 +117,9 @@ uncovered d at r p = cond (p.division == d && nat_lt (length (holders d p.number
 
 -- 8: an offer that nobody answers
 abbrev pub unanswered : ℕ → ℕ → Offer → Option QueueEntry
-unanswered d at o = cond (owns_offer d o && nat_lt 300 (age at o.since))
+unanswered d at o = cond (owns_offer d o && is_past rank.Unanswered (age at o.since))
     (Some (record {
-      rank = 8;
+      rank = rank.Unanswered;
       since = o.since;
       number = cond (o.lender == d) o.borrower o.lender;
       callsign = Some o.callsign;
@@ -128,8 +129,8 @@ unanswered d at o = cond (owns_offer d o && nat_lt 300 (age at o.since))
 unfoldable pub entries : ℕ → ℕ → Room → List QueueEntry
 entries d at r =
     filter_map (unserved d at r) r.incidents
-    ++ (filter_map (unread d at r) r.vehicles
-    ++ (filter_map (slow d at r) r.vehicles
+    ++ (filter_map (unacknowledged d at r) r.vehicles
+    ++ (filter_map (late_for_scene d at r) r.vehicles
     ++ (filter_map (exception d) r.reports
     ++ (filter_map (overdue d at) r.loans
     ++ (filter_map (shift_over d at) r.vehicles

@@ -6,13 +6,14 @@ use Rattle.room_types.specs.Keys.{owns_loan, owns_offer, owns_point, owns_report
 use Rattle.room_types.specs.Keys.{owns_vehicle, same_callsign}
 use Rattle.room_types.specs.Texts.{Callsign}
 use Rattle.room_types.specs.declared.asks.Ask.{Ask}
-use Rattle.room_types.specs.declared.asks.Ask.TheVariants.{Call, Last}
+use Rattle.room_types.specs.declared.asks.Ask.TheVariants.{Call, Job, Last}
 use Rattle.room_types.specs.declared.asks.CallForm.{CallForm}
 use Rattle.room_types.specs.declared.asks.Who.{Who}
 use Rattle.room_types.specs.declared.asks.Who.TheVariants.{Crew, Desk, Position}
 use Rattle.room_types.specs.declared.changes.Change.{Change}
 use Rattle.room_types.specs.declared.changes.Change.TheVariants.{Settle}
-use Rattle.room_model.specs.Queries.{kept_call, last_serial}
+use Rattle.room_types.specs.declared.tables.Assignment.{Assignment}
+use Rattle.room_model.specs.Queries.{assignment_at, calls_of, incident_of, kept_call, last_serial}
 use Rattle.room_model.specs.Room.{Room}
 
 -- the same plan, and the rows that division d owns
@@ -54,11 +55,21 @@ pub record AgreeOnCall (p : ℕ) (f : CallForm) (r s : Room) : Type 0 where
   pub plan : r.plan ≡ s.plan
   pub share : (d : ℕ) → division_of r.plan f.place ≡ Some d → own d r ≡ own d s
 
+-- two rooms agree on what decides a crew's job: its vehicle's rows, and of the incident that it has
+-- an order for the row and the calls
+pub record AgreeOnJob (c : Callsign) (r s : Room) : Type 0 where
+  pub vehicle : mine c r ≡ mine c s
+  pub incident : (a : Assignment) → assignment_at c r ≡ Some a
+      → incident_of a.division a.incident r ≡ incident_of a.division a.incident s
+  pub calls : (a : Assignment) → assignment_at c r ≡ Some a
+      → calls_of a.division a.incident r ≡ calls_of a.division a.incident s
+
 -- two rooms agree on what decides an ask: the division's rows for its desk, the vehicle's for its
--- crew, the greatest serial for a position that asks for it; what else a position asks is refused
--- in every room
+-- crew, and those of its incident where it asks for its job, the greatest serial for a position
+-- that asks for it; what else a position asks is refused in every room
 abbrev pub AgreeOn : Who → Ask → Room → Room → Type 0
 AgreeOn (Desk d) a r s = own d r ≡ own d s
+AgreeOn (Crew c) Job r s = AgreeOnJob c r s
 AgreeOn (Crew c) a r s = mine c r ≡ mine c s
 AgreeOn (Position p) (Call f) r s = AgreeOnCall p f r s
 AgreeOn (Position p) Last r s = last_serial p r ≡ last_serial p s

@@ -12,6 +12,7 @@ use Rattle.room_types.specs.declared.refusal_statuses.Refusal.{Refusal}
 use Rattle.room_types.specs.RefusalStatuses.{refusal_number}
 use Rattle.room_types.specs.Texts.{Callsign}
 use Rattle.room_model.specs.Calls.{new_call, show_last_serial, take_call}
+use Rattle.room_model.specs.CrewJobs.{show_job}
 use Rattle.room_model.specs.DayTimes.{show_times}
 use Rattle.room_model.specs.Decisions.{Decides, Verdict, answer_of, changes_of}
 use Rattle.room_model.specs.Incidents.{change_needs, close, merge, show_incident, show_incidents}
@@ -56,6 +57,7 @@ desk_asks d ask.Loans at r = show_loans d r
 desk_asks d ask.Offers at r = show_offers d r
 desk_asks d (ask.Times from to) at r = show_times d from to r
 desk_asks d ask.Order at r = Err refusal.WrongRole
+desk_asks d ask.Job at r = Err refusal.WrongRole
 desk_asks d (ask.Report p) at r = Err refusal.WrongRole
 desk_asks d ask.Last at r = Err refusal.WrongRole
 
@@ -64,6 +66,7 @@ position_asks p (ask.Call f) at r = take_call (new_call p f at) r
 position_asks p ask.Last at r = show_last_serial p r
 position_asks p a at r = Err refusal.WrongRole
 
+-- what a crew asks of its vehicle's rows, and of nothing else
 abbrev pub crew_asks : Callsign → Ask → ℕ → Room → Verdict
 crew_asks c ask.Order at r = show_order c r
 crew_asks c (ask.Report p) at r = take_report c p at r
@@ -73,6 +76,8 @@ crew_asks c a at r = Err refusal.WrongRole
 abbrev pub who_asks : Who → Ask → ℕ → Room → Verdict
 who_asks (Desk d) a at r = desk_asks d a at r
 who_asks (Position p) a at r = position_asks p a at r
+-- a job is asked of its incident too
+who_asks (Crew c) ask.Job at r = show_job c r
 who_asks (Crew c) a at r = crew_asks c a at r
 
 abbrev pub decided : Event → Room → Verdict
@@ -88,12 +93,14 @@ answer_to e r = answer_of (decided e r)
 abbrev pub is_desks : Ask → Bool
 is_desks (ask.Call f) = false
 is_desks ask.Order = false
+is_desks ask.Job = false
 is_desks (ask.Report p) = false
 is_desks ask.Last = false
 is_desks a = true
 
 abbrev pub is_crews : Ask → Bool
 is_crews ask.Order = true
+is_crews ask.Job = true
 is_crews (ask.Report p) = true
 is_crews ask.Last = true
 is_crews a = false

@@ -18,6 +18,7 @@ use Rattle.room_types.specs.declared.needs.Counts.{Counts}
 use Rattle.room_model.specs.Queries.{vehicle_at}
 use Rattle.room_model.specs.Room.{Room}
 use Rattle.room_model.specs.Step.{room_after}
+use Rattle.room_types.specs.declared.ranks.Rank.{Rank}
 
 -- r ▸ e is the room after an event, so that r ▸ e ▸ f reads as a story from left to right
 infixl 5 ◌▸◌
@@ -65,7 +66,7 @@ press number button order reference =
     ask.Report (record { number = number; button = button; order = order; place = place reference })
 
 -- an entry of the queue: its rank, since when, the number, and the vehicle where there is one
-abbrev pub entry : ℕ → ℕ → ℕ → Option Callsign → QueueEntry
+abbrev pub entry : Rank → ℕ → ℕ → Option Callsign → QueueEntry
 entry rank since number callsign = record {
   rank = rank;
   since = since;

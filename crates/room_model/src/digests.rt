@@ -10,7 +10,7 @@ ghost use Rattle.room_model.specs.Room.{Room as Held};
 ghost use Rattle.room_model.specs.Step.{IsAddressed};
 ghost use Rattle.room_model.specs.Digests.{IsHeadOf, IsMiss, digits_of};
 ghost use Rattle.room_model.specs.Rooms.{IsUnavailable};
-ghost use Rattle.room_model.specs.declared.digests.Miss.TheVariants.{OtherDigest};
+ghost use Rattle.room_model.specs.declared.digests.DigestMismatch.TheVariants.{OtherDigest};
 ghost use Rattle.room_model.specs.declared.digests.Version.{Version as Which};
 
 use crate::rooms::Room;
@@ -31,14 +31,14 @@ pub enum Version {
 /// What a list says of the room at which a part begins: which digest of its rows, and that in
 /// digits.
 #[derive(Clone, Copy)]
-pub struct Head {
+pub struct StartDigest {
     pub version: Version,
     pub digits: [u8; 64],
 }
 
 /// Why a room did not come to a digest.
 #[derive(Clone, Copy)]
-pub enum Miss {
+pub enum DigestMismatch {
     /// It would have come to another one.
     OtherDigest,
     /// Memory was refused, or storage failed.
@@ -75,9 +75,9 @@ pub trait Digested: Room {
         &mut self,
         alloc: Global,
         event: &Event,
-        head: &Head,
+        head: &StartDigest,
         render: F,
-    ) -> Result<Vec<u8>, Miss>
+    ) -> Result<Vec<u8>, DigestMismatch>
         requires ready { Self.is_ready self.old }
         requires callable { F.IsAlwaysCallable render }
         requires memory { (answer : Result Answered Why) (r : _)

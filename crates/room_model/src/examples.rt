@@ -3,6 +3,7 @@
 //! that an independent program sampled from random runs stand in `room_samples`.
 ghost use Rattle.room_model.specs.CallExamples.{CallExamples};
 ghost use Rattle.room_model.specs.IncidentExamples.{IncidentExamples};
+ghost use Rattle.room_model.specs.JobExamples.{JobExamples};
 ghost use Rattle.room_model.specs.LoansAndOffers.{LoanExamples, OfferExamples};
 ghost use Rattle.room_model.specs.PlaceExamples.{PlaceExamples};
 ghost use Rattle.room_model.specs.ProposalExamples.{ProposalExamples};
@@ -29,6 +30,11 @@ pub fn incident_examples()
 /// Mobilising and standing down, orders, posts, going on and off duty.
 pub fn vehicle_examples()
     ensures { VehicleExamples }
+{}
+
+/// What a crew is told of its incident.
+pub fn job_examples()
+    ensures { JobExamples }
 {}
 
 /// Offering a vehicle, and what becomes of the offer.

@@ -22,7 +22,8 @@ use Rattle.room_types.specs.declared.tables.Vehicle.{Vehicle}
 use Rattle.room_model.proofs.SliceLookUps.{open_turn_is}
 use Rattle.room_model.proofs.Tests.{filter_map_among, left_true, right_true, row_among}
 use Rattle.room_model.specs.Queries.{holders, incident_of, open_turn, point_of}
-use Rattle.room_model.specs.Queue.{entries, slow, slow_turn, uncovered, unread, unread_turn}
+use Rattle.room_model.specs.Queue.{entries, late_for_scene, late_turn, uncovered, unacknowledged}
+use Rattle.room_model.specs.Queue.{unacknowledged_turn}
 use Rattle.room_model.specs.RoomSlices.{room_of}
 use Rattle.room_queue.specs.QueueEntries.{seen, turn_ahead, uncovered_seen}
 use Rattle.room_queue.specs.ServedIncidents.{AreServed}
@@ -53,13 +54,13 @@ module _ (d at : ℕ) (plan : List Area) (s : DivisionRows) (agrees : is_share d
       sym (open_turn_is d plan s agrees v.callsign v
       (row_among callsign_cmp vehicle_key callsigns_total s.vehicles v vehicles a) turns)
 
-  unread_is : (v : Vehicle) → Among v s.vehicles
-      → unread_turn at v (turn_ahead d s v) ≡ unread d at (room_of plan s) v
-  unread_is v a = rw (same_turn v a) (guarded (unread_turn at v) refl _ _)
+  unacknowledged_is : (v : Vehicle) → Among v s.vehicles
+      → unacknowledged_turn at v (turn_ahead d s v) ≡ unacknowledged d at (room_of plan s) v
+  unacknowledged_is v a = rw (same_turn v a) (guarded (unacknowledged_turn at v) refl _ _)
 
-  slow_is : (v : Vehicle) → Among v s.vehicles
-      → slow_turn d at (room_of plan s) v (turn_ahead d s v) ≡ slow d at (room_of plan s) v
-  slow_is v a = rw (same_turn v a) (guarded (slow_turn d at (room_of plan s) v) refl _ _)
+  late_is : (v : Vehicle) → Among v s.vehicles
+      → late_turn d at (room_of plan s) v (turn_ahead d s v) ≡ late_for_scene d at (room_of plan s) v
+  late_is v a = rw (same_turn v a) (guarded (late_turn d at (room_of plan s) v) refl _ _)
 
   uncovered_is : (p : Point) → Among p s.points
       → uncovered_seen d at s p ≡ uncovered d at (room_of plan s) p
@@ -78,7 +79,7 @@ module _ (d at : ℕ) (plan : List Area) (s : DivisionRows) (agrees : is_share d
   unfolding entries holders incident_of
   seen_all served h =
       rw (filter_map_among _ _ s.incidents (λ i a. unserved_is d at (room_of plan s) served i h))
-      (rw (filter_map_among _ _ s.vehicles unread_is) (rw (filter_map_among _ _ s.vehicles slow_is)
+      (rw (filter_map_among _ _ s.vehicles unacknowledged_is) (rw (filter_map_among _ _ s.vehicles late_is)
       (rw (filter_map_among _ _ s.points uncovered_is) (simp append_assoc refl))))
 
 -- ---- walks

@@ -6,7 +6,7 @@ use Rattle.std.proofs.lemmas.Cmp.{nat_cmp_total}
 use Rattle.std.specs.Cmp.{unsigned_ties}
 use Rattle.std.specs.List.{list_any}
 use Rattle.std.specs.Ordering.{is_eq, nat_cmp, ordering_reverse}
-use Rattle.std.specs.Prelude.{filter, is_some, nat_lt, not, None, Option, Some, ◌&&◌, ◌==◌, ◌||◌}
+use Rattle.std.specs.Prelude.{filter, is_some, not, None, Option, Some, ◌&&◌, ◌==◌, ◌||◌}
 use Rattle.std.specs.declared.cmp.Ordering.TheVariants.{Equal, Greater, Less}
 use Rattle.std.specs.declared.cmp.Ordering.{Ordering}
 use Rattle.room_types.proofs.KeyedLaws.{row_put}
@@ -24,6 +24,8 @@ use Rattle.room_model.specs.Room.{Room}
 use Rattle.room_queue.specs.QueueEntries.{unserved_seen}
 use Rattle.room_queue.specs.ServedIncidents.{AreServed, is_served, number_of, serves}
 use Rattle.room_queue.specs.declared.served_incidents.Served.{Served}
+use Rattle.room_types.specs.Ranks.{is_past}
+use Rattle.room_types.specs.declared.ranks.Rank.TheVariants as rank
 
 and_false : (a : Bool) → a && false ≡ false
 and_false true = refl
@@ -93,16 +95,17 @@ turned o true true false true = refl
 turned o true true false false = refl
 
 abbrev unserved_entry : Incident → QueueEntry
-unserved_entry i = record { rank = 1; since = i.opened; number = i.number; callsign = None }
+unserved_entry i = record { rank = rank.Unserved; since = i.opened; number = i.number; callsign = None }
 
 pub unserved_is : (d at : ℕ) (r : Room) (known : List Served) (i : Incident)
     → AreServed d r.turns known → unserved_seen d at known i ≡ unserved d at r i
 unserved_is d at r known i h =
-    turned (unserved_entry i) (i.division == d) (is_active i.state) (nat_lt 180 (age at i.opened))
+    turned (unserved_entry i) (i.division == d) (is_active i.state) (is_past rank.Unserved (age at i.opened))
     (not (is_served known i.number))
     ∙ ap
     (λ b.
-    cond (i.division == d && (is_active i.state && (b && nat_lt 180 (age at i.opened)))) (Some (unserved_entry i)) None)
+    cond (i.division == d && (is_active i.state && (b && is_past rank.Unserved (age at i.opened))))
+    (Some (unserved_entry i)) None)
     (none_serve d i.number r known h)
 
 -- ---- gathering

@@ -17,6 +17,9 @@ use Rattle.std.specs.Prelude.{◌==◌, ◌∷◌, ◌≡◌}
 use Rattle.std.specs.declared.cmp.Ordering.{Ordering}
 use Rattle.std.specs.declared.cmp.Ordering.TheVariants.{Less}
 use Rattle.room_place.specs.Choice.{Among}
+use Rattle.room_types.proofs.RankLaws.{same_ranks, tied_ranks}
+use Rattle.room_types.specs.contracts.ranks.RankOrd.TheImpl.{cmp-value}
+use Rattle.room_types.specs.contracts.ranks.RankPartialEq.TheImpl.{eq-value}
 use Rattle.room_types.specs.KeyedRows.{IsBelowAll, IsKeyed}
 use Rattle.room_types.specs.Keys.{callsign_cmp, entry_cmp, entry_key, option_callsign_cmp}
 use Rattle.room_types.specs.KeyLemmas.{entries_total, exact_entries}
@@ -28,12 +31,12 @@ use Rattle.room_model.specs.Queue.{IsQueueOf}
 -- ---- the order and the test that entries have in code
 abbrev pub code_cmp : QueueEntry → QueueEntry → Ordering
 code_cmp a b =
-    ordering_then (nat_cmp a.rank b.rank) (ordering_then (nat_cmp a.since b.since)
+    ordering_then (cmp-value.it a.rank b.rank) (ordering_then (nat_cmp a.since b.since)
     (ordering_then (nat_cmp a.number b.number) (option_cmp callsign_cmp a.callsign b.callsign)))
 
 abbrev pub alike : QueueEntry → QueueEntry → Bool
 alike a b =
-    a.rank == b.rank
+    eq-value.it a.rank b.rank
     && (a.since == b.since && (a.number == b.number && option_eq (eq_by_cmp callsign_cmp) a.callsign b.callsign))
 
 same_options : (a b : Option Callsign) → option_cmp callsign_cmp a b ≡ option_callsign_cmp a b
@@ -43,11 +46,10 @@ same_options (Some a) None = refl
 same_options (Some a) (Some b) = refl
 
 same_cmp : (a b : QueueEntry) → code_cmp a b ≡ entry_cmp a b
-same_cmp a b =
-    ap (λ o.
-    ordering_then (nat_cmp a.rank b.rank)
-    (ordering_then (nat_cmp a.since b.since) (ordering_then (nat_cmp a.number b.number) o)))
-    (same_options a.callsign b.callsign)
+same_cmp a b i =
+    ordering_then (same_ranks a.rank b.rank i)
+    (ordering_then (nat_cmp a.since b.since)
+    (ordering_then (nat_cmp a.number b.number) (same_options a.callsign b.callsign i)))
 
 tied_options : (a b : Option Callsign)
     → option_eq (eq_by_cmp callsign_cmp) a b ≡ is_eq (option_callsign_cmp a b)
@@ -58,7 +60,7 @@ tied_options (Some a) (Some b) = refl
 
 tied : (a b : QueueEntry) → alike a b ≡ eq_by_cmp entry_cmp a b
 tied a b =
-    both_tied _ _ _ _ (unsigned_ties a.rank b.rank) (both_tied _ _ _ _ (unsigned_ties a.since b.since)
+    both_tied _ _ _ _ (tied_ranks a.rank b.rank) (both_tied _ _ _ _ (unsigned_ties a.since b.since)
     (both_tied _ _ _ _ (unsigned_ties a.number b.number) (tied_options a.callsign b.callsign)))
 
 alike_equiv : IsEquivalence alike

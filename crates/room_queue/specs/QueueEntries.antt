@@ -1,5 +1,5 @@
 -- The entries that are found in a slice's rows.
-use Rattle.std.specs.Prelude.{List, None, Option, Some, [], cond, filter_map, is_some, nat_lt, not}
+use Rattle.std.specs.Prelude.{List, None, Option, Some, [], cond, filter_map, is_some, not}
 use Rattle.std.specs.Prelude.{ℕ, ◌&&◌, ◌++◌, ◌==◌}
 use Rattle.room_types.specs.Codes.{is_active, is_mobilised}
 use Rattle.room_types.specs.Slices.{open_turn}
@@ -11,18 +11,20 @@ use Rattle.room_types.specs.declared.tables.Turn.{Turn}
 use Rattle.room_types.specs.declared.tables.Vehicle.{Vehicle}
 use Rattle.room_model.specs.Moments.{age}
 use Rattle.room_model.specs.Queries.{point_of}
-use Rattle.room_model.specs.Queue.{exception, overdue, shift_over, slow_turn, unanswered, uncovered}
-use Rattle.room_model.specs.Queue.{unread_turn}
+use Rattle.room_model.specs.Queue.{exception, overdue, shift_over, late_turn, unanswered, uncovered}
+use Rattle.room_model.specs.Queue.{unacknowledged_turn}
 use Rattle.room_model.specs.RoomSlices.{unplanned}
 use Rattle.room_queue.specs.ServedIncidents.{is_served}
 use Rattle.room_queue.specs.declared.served_incidents.Served.{Served}
+use Rattle.room_types.specs.Ranks.{is_past}
+use Rattle.room_types.specs.declared.ranks.Rank.TheVariants as rank
 
 -- of an incident that is not among those that some vehicle serves
 abbrev pub unserved_seen : ℕ → ℕ → List Served → Incident → Option QueueEntry
 unserved_seen d at served i = cond
     (i.division == d && (is_active i.state
-    && (nat_lt 180 (age at i.opened) && not (is_served served i.number))))
-    (Some (record { rank = 1; since = i.opened; number = i.number; callsign = None })) None
+    && (is_past rank.Unserved (age at i.opened) && not (is_served served i.number))))
+    (Some (record { rank = rank.Unserved; since = i.opened; number = i.number; callsign = None })) None
 
 -- the turn that a mobilised vehicle is on its way by, found at its last order
 abbrev pub turn_ahead : ℕ → DivisionRows → Vehicle → Option Turn
@@ -38,8 +40,8 @@ abbrev pub with_sent : ℕ → ℕ → List Served → DivisionRows → List Que
 with_sent d at served s before =
     before
     ++ filter_map (unserved_seen d at served) s.incidents
-    ++ filter_map (λ v. unread_turn at v (turn_ahead d s v)) s.vehicles
-    ++ filter_map (λ v. slow_turn d at (unplanned s) v (turn_ahead d s v)) s.vehicles
+    ++ filter_map (λ v. unacknowledged_turn at v (turn_ahead d s v)) s.vehicles
+    ++ filter_map (λ v. late_turn d at (unplanned s) v (turn_ahead d s v)) s.vehicles
     ++ filter_map (exception d) s.reports
 
 -- ranks 5 to 8

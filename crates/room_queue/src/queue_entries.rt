@@ -2,8 +2,8 @@
 //! owns the row, though a slice has no others, so that its contract holds of any row.
 ghost use Rattle.std.specs.Prelude.{◌≡◌, ◌==◌, option_copied, if◌then◌else◌};
 ghost use Rattle.room_model.specs.Moments.{age, scene_limit};
-ghost use Rattle.room_model.specs.Queue.{exception, overdue, shift_over, slow_turn, unanswered};
-ghost use Rattle.room_model.specs.Queue.{unread_turn};
+ghost use Rattle.room_model.specs.Queue.{exception, overdue, shift_over, late_turn, unanswered};
+ghost use Rattle.room_model.specs.Queue.{unacknowledged_turn};
 ghost use Rattle.room_model.specs.RoomSlices.{unplanned};
 ghost use Rattle.room_queue.specs.QueueEntries.{turn_ahead, uncovered_seen, unserved_seen};
 
@@ -12,18 +12,10 @@ use room_alloc::cover::cover;
 use room_place::plans::DivisionNumber;
 use room_types::answers::QueueEntry;
 use room_types::numbers::{Class, Moment};
+use room_types::ranks::Rank;
 use room_types::rows::{Row, Rows};
 use room_types::slices::Slice;
 use room_types::tables::{Incident, Loan, Offer, Point, Report, Turn, Vehicle};
-
-/// Seconds after which an active incident that nobody serves needs an eye.
-const UNSERVED_AFTER: u32 = 180;
-
-/// Seconds after which an order that its crew has not acknowledged needs an eye.
-const UNREAD_AFTER: u32 = 60;
-
-/// Seconds after which an offer that nobody answers needs an eye.
-const UNANSWERED_AFTER: u32 = 300;
 
 /// 1: an active incident that nobody serves.
 pub fn unserved(
@@ -36,25 +28,26 @@ pub fn unserved(
 {
     let needs_eye = incident.owned_by(slice.division)
         && incident.state.is_active()
-        && age(at, incident.opened) > UNSERVED_AFTER
+        && Rank::Unserved.is_past(age(at, incident.opened))
         && served.get(&incident.number).is_none();
     needs_eye.then_some(QueueEntry {
-        rank: 1,
+        rank: Rank::Unserved,
         since: incident.opened,
         number: incident.number.get(),
         callsign: None,
     })
 }
 
-/// 2: a mobilised vehicle whose crew has not read its order.
-pub fn unread(slice: &Slice, vehicle: &Vehicle, at: Moment) -> Option<QueueEntry>
-    ensures { result ≡ unread_turn at vehicle.now
+/// 2: a mobilised vehicle whose crew has not acknowledged its order.
+pub fn unacknowledged(slice: &Slice, vehicle: &Vehicle, at: Moment) -> Option<QueueEntry>
+    ensures { result ≡ unacknowledged_turn at vehicle.now
         (turn_ahead slice.now.division slice.now.rows vehicle.now) }
 {
     let turn = turn_ahead(slice, vehicle)?;
-    let needs_eye = turn.acknowledged.is_none() && age(at, turn.ordered) > UNREAD_AFTER;
+    let needs_eye = turn.acknowledged.is_none()
+        && Rank::Unacknowledged.is_past(age(at, turn.ordered));
     needs_eye.then_some(QueueEntry {
-        rank: 2,
+        rank: Rank::Unacknowledged,
         since: turn.ordered,
         number: turn.incident.get(),
         callsign: Some(vehicle.callsign),
@@ -64,15 +57,15 @@ pub fn unread(slice: &Slice, vehicle: &Vehicle, at: Moment) -> Option<QueueEntry
 /// 3: a vehicle that is on its way for longer than the incident's class allows. It is the class of
 /// now, and the age of the incident, whenever the vehicle was sent.
 #[tactic(auto, unfolding(room_model::specs::Queries::incident_of))]
-pub fn slow(slice: &Slice, vehicle: &Vehicle, at: Moment) -> Option<QueueEntry>
-    ensures { result ≡ slow_turn slice.now.division at (unplanned slice.now.rows) vehicle.now
+pub fn late_for_scene(slice: &Slice, vehicle: &Vehicle, at: Moment) -> Option<QueueEntry>
+    ensures { result ≡ late_turn slice.now.division at (unplanned slice.now.rows) vehicle.now
         (turn_ahead slice.now.division slice.now.rows vehicle.now) }
 {
     let turn = turn_ahead(slice, vehicle)?;
     let incident = slice.rows.incidents.get(&(slice.division, turn.incident))?;
     let needs_eye = age(at, incident.opened) > scene_limit(incident.class);
     needs_eye.then_some(QueueEntry {
-        rank: 3,
+        rank: Rank::LateForScene,
         since: incident.opened,
         number: incident.number.get(),
         callsign: Some(vehicle.callsign),
@@ -95,7 +88,7 @@ pub fn exception(slice: &Slice, report: &Report) -> Option<QueueEntry>
 {
     let needs_eye = report.owned_by(slice.division) && report.is_exception();
     needs_eye.then_some(QueueEntry {
-        rank: 4,
+        rank: Rank::OutOfTurn,
         since: report.at,
         number: report.number.get(),
         callsign: Some(report.callsign),
@@ -109,7 +102,7 @@ pub fn overdue(slice: &Slice, loan: &Loan, at: Moment) -> Option<QueueEntry>
     let needs_eye = loan.owned_by(slice.division) && loan.until < at;
     let other = other_party(loan.lender, loan.borrower, slice.division);
     needs_eye.then_some(QueueEntry {
-        rank: 5,
+        rank: Rank::Overdue,
         since: loan.until,
         number: other.get(),
         callsign: Some(loan.callsign),
@@ -124,7 +117,7 @@ pub fn shift_over(slice: &Slice, vehicle: &Vehicle, at: Moment) -> Option<QueueE
         && !vehicle.status.is_off()
         && vehicle.shift_end <= at;
     needs_eye.then_some(QueueEntry {
-        rank: 6,
+        rank: Rank::ShiftOver,
         since: vehicle.shift_end,
         number: 0,
         callsign: Some(vehicle.callsign),
@@ -138,7 +131,7 @@ pub fn uncovered(slice: &Slice, point: &Point, at: Moment) -> Option<QueueEntry>
     let held = cover(slice, point.number, at)?;
     let needs_eye = point.owned_by(slice.division) && held < point.cover.get() as usize;
     needs_eye.then_some(QueueEntry {
-        rank: 7,
+        rank: Rank::Uncovered,
         since: Moment::of(0),
         number: point.number.get(),
         callsign: None,
@@ -149,10 +142,11 @@ pub fn uncovered(slice: &Slice, point: &Point, at: Moment) -> Option<QueueEntry>
 pub fn unanswered(slice: &Slice, offer: &Offer, at: Moment) -> Option<QueueEntry>
     ensures { result ≡ unanswered slice.now.division at offer.now }
 {
-    let needs_eye = offer.owned_by(slice.division) && age(at, offer.since) > UNANSWERED_AFTER;
+    let needs_eye = offer.owned_by(slice.division)
+        && Rank::Unanswered.is_past(age(at, offer.since));
     let other = other_party(offer.lender, offer.borrower, slice.division);
     needs_eye.then_some(QueueEntry {
-        rank: 8,
+        rank: Rank::Unanswered,
         since: offer.since,
         number: other.get(),
         callsign: Some(offer.callsign),

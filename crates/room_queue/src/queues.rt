@@ -84,10 +84,10 @@ fn push_sent(
         push_entry(seen, queue_entries::unserved(slice, served, incident, at))?;
     }
     for vehicle in vehicles {
-        push_entry(seen, queue_entries::unread(slice, vehicle, at))?;
+        push_entry(seen, queue_entries::unacknowledged(slice, vehicle, at))?;
     }
     for vehicle in vehicles {
-        push_entry(seen, queue_entries::slow(slice, vehicle, at))?;
+        push_entry(seen, queue_entries::late_for_scene(slice, vehicle, at))?;
     }
     for report in slice.rows.reports.as_slice() {
         push_entry(seen, queue_entries::exception(slice, report))?;

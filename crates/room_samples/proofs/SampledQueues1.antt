@@ -21,6 +21,7 @@ use Rattle.room_samples.specs.SampledRooms.{A1, A2, A3, B1, B2, overlapping_divi
 use Rattle.room_samples.specs.SampledRooms.{two_divisions}
 use Rattle.room_samples.specs.SampledSteps.{Steps}
 use Rattle.room_model.specs.StepWords.{at, entry, needs}
+use Rattle.room_types.specs.declared.ranks.Rank.TheVariants as rank
 
 abbrev before_clear : Room
 before_clear = record {
@@ -355,7 +356,7 @@ before_queue_of_1 = record {
 }
 
 queue_of_1 : Steps (at 2001 (Desk 1) ask.Queue) before_queue_of_1
-    (Ok (answer.Queue ((entry 1 1589 2147483647 None) ∷ []))) before_queue_of_1
+    (Ok (answer.Queue ((entry rank.Unserved 1589 2147483647 None) ∷ []))) before_queue_of_1
 unfolding machine
 queue_of_1 = (refl, refl)
 
@@ -388,7 +389,7 @@ before_queue_of_1_and_2 = record {
 }
 
 queue_of_1_and_2 : Steps (at 2272 (Desk 1) ask.Queue) before_queue_of_1_and_2
-    (Ok (answer.Queue ((entry 1 1182 1 None) ∷ (entry 2 2181 2 (Some A2)) ∷ [])))
+    (Ok (answer.Queue ((entry rank.Unserved 1182 1 None) ∷ (entry rank.Unacknowledged 2181 2 (Some A2)) ∷ [])))
     before_queue_of_1_and_2
 unfolding machine
 queue_of_1_and_2 = (refl, refl)
@@ -415,8 +416,8 @@ before_queue_of_1_and_2_and_3 = record {
 }
 
 queue_of_1_and_2_and_3 : Steps (at 2015 (Desk 1) ask.Queue) before_queue_of_1_and_2_and_3
-    (Ok (answer.Queue ((entry 1 1186 2 None) ∷ (entry 2 1186 1 (Some A1))
-    ∷ (entry 3 1005 1 (Some A1)) ∷ []))) before_queue_of_1_and_2_and_3
+    (Ok (answer.Queue ((entry rank.Unserved 1186 2 None) ∷ (entry rank.Unacknowledged 1186 1 (Some A1))
+    ∷ (entry rank.LateForScene 1005 1 (Some A1)) ∷ []))) before_queue_of_1_and_2_and_3
 unfolding machine
 queue_of_1_and_2_and_3 = (refl, refl)
 
@@ -446,8 +447,9 @@ before_queue_of_1_and_2_and_3_and_4 = record {
 
 queue_of_1_and_2_and_3_and_4 : Steps
     (at 1880 (Desk 1) ask.Queue) before_queue_of_1_and_2_and_3_and_4
-    (Ok (answer.Queue ((entry 1 1161 2 None) ∷ (entry 2 1342 1 (Some A1))
-    ∷ (entry 3 980 1 (Some A1)) ∷ (entry 4 1343 1 (Some A1)) ∷ (entry 4 1615 2 (Some A2))
+    (Ok (answer.Queue ((entry rank.Unserved 1161 2 None) ∷ (entry rank.Unacknowledged 1342 1 (Some A1))
+    ∷ (entry rank.LateForScene 980 1 (Some A1)) ∷ (entry rank.OutOfTurn 1343 1 (Some A1))
+    ∷ (entry rank.OutOfTurn 1615 2 (Some A2))
     ∷ []))) before_queue_of_1_and_2_and_3_and_4
 unfolding machine
 queue_of_1_and_2_and_3_and_4 = (refl, refl)
@@ -485,9 +487,10 @@ before_queue_of_1_and_2_and_3_and_4_and_5 = record {
 
 queue_of_1_and_2_and_3_and_4_and_5 : Steps
     (at 4051 (Desk 1) ask.Queue) before_queue_of_1_and_2_and_3_and_4_and_5
-    (Ok (answer.Queue ((entry 1 2983 2 None) ∷ (entry 2 3950 1 (Some A1))
-    ∷ (entry 3 1554 1 (Some A1)) ∷ (entry 4 3226 2 (Some A2)) ∷ (entry 4 3287 1 (Some A2))
-    ∷ (entry 5 3625 2 (Some A1)) ∷ []))) before_queue_of_1_and_2_and_3_and_4_and_5
+    (Ok (answer.Queue ((entry rank.Unserved 2983 2 None) ∷ (entry rank.Unacknowledged 3950 1 (Some A1))
+    ∷ (entry rank.LateForScene 1554 1 (Some A1)) ∷ (entry rank.OutOfTurn 3226 2 (Some A2))
+    ∷ (entry rank.OutOfTurn 3287 1 (Some A2))
+    ∷ (entry rank.Overdue 3625 2 (Some A1)) ∷ []))) before_queue_of_1_and_2_and_3_and_4_and_5
 unfolding machine
 queue_of_1_and_2_and_3_and_4_and_5 = (refl, refl)
 
@@ -525,10 +528,12 @@ before_queue_of_1_and_2_and_3_and_4_and_5_and_6 = record {
 
 queue_of_1_and_2_and_3_and_4_and_5_and_6 : Steps
     (at 5663 (Desk 1) ask.Queue) before_queue_of_1_and_2_and_3_and_4_and_5_and_6
-    (Ok (answer.Queue ((entry 1 2967 5 None) ∷ (entry 2 2026 4 (Some B1))
-    ∷ (entry 3 1985 4 (Some B1)) ∷ (entry 4 1030 2 (Some A2)) ∷ (entry 4 1794 1 (Some B1))
-    ∷ (entry 4 2509 3 (Some A2)) ∷ (entry 4 2983 4 (Some A2)) ∷ (entry 4 3103 6 (Some A2))
-    ∷ (entry 5 2998 2 (Some A2)) ∷ (entry 6 5662 0 (Some B1)) ∷ [])))
+    (Ok (answer.Queue ((entry rank.Unserved 2967 5 None) ∷ (entry rank.Unacknowledged 2026 4 (Some B1))
+    ∷ (entry rank.LateForScene 1985 4 (Some B1)) ∷ (entry rank.OutOfTurn 1030 2 (Some A2))
+    ∷ (entry rank.OutOfTurn 1794 1 (Some B1))
+    ∷ (entry rank.OutOfTurn 2509 3 (Some A2)) ∷ (entry rank.OutOfTurn 2983 4 (Some A2))
+    ∷ (entry rank.OutOfTurn 3103 6 (Some A2))
+    ∷ (entry rank.Overdue 2998 2 (Some A2)) ∷ (entry rank.ShiftOver 5662 0 (Some B1)) ∷ [])))
     before_queue_of_1_and_2_and_3_and_4_and_5_and_6
 unfolding machine
 queue_of_1_and_2_and_3_and_4_and_5_and_6 = (refl, refl)
@@ -560,9 +565,10 @@ before_queue_of_1_and_2_and_3_and_4_and_5_and_6_and_7 = record {
 
 queue_of_1_and_2_and_3_and_4_and_5_and_6_and_7 : Steps
     (at 2026 (Desk 1) ask.Queue) before_queue_of_1_and_2_and_3_and_4_and_5_and_6_and_7
-    (Ok (answer.Queue ((entry 1 1125 1 None) ∷ (entry 2 1517 2 (Some A1))
-    ∷ (entry 3 1186 2 (Some A1)) ∷ (entry 4 2000 1 (Some A1)) ∷ (entry 5 1999 7 (Some A2))
-    ∷ (entry 6 2000 0 (Some A1)) ∷ (entry 7 0 2 None) ∷ [])))
+    (Ok (answer.Queue ((entry rank.Unserved 1125 1 None) ∷ (entry rank.Unacknowledged 1517 2 (Some A1))
+    ∷ (entry rank.LateForScene 1186 2 (Some A1)) ∷ (entry rank.OutOfTurn 2000 1 (Some A1))
+    ∷ (entry rank.Overdue 1999 7 (Some A2))
+    ∷ (entry rank.ShiftOver 2000 0 (Some A1)) ∷ (entry rank.Uncovered 0 2 None) ∷ [])))
     before_queue_of_1_and_2_and_3_and_4_and_5_and_6_and_7
 unfolding machine
 queue_of_1_and_2_and_3_and_4_and_5_and_6_and_7 = (refl, refl)
@@ -604,10 +610,12 @@ before_queue_of_1_and_2_and_3_and_4_and_5_and_6_and_7_and_8 = record {
 
 queue_of_1_and_2_and_3_and_4_and_5_and_6_and_7_and_8 : Steps
     (at 39999 (Desk 1) ask.Queue) before_queue_of_1_and_2_and_3_and_4_and_5_and_6_and_7_and_8
-    (Ok (answer.Queue ((entry 1 3965 2 None) ∷ (entry 2 3484 1 (Some A3))
-    ∷ (entry 3 1426 1 (Some A3)) ∷ (entry 4 1637 1 (Some A3)) ∷ (entry 4 1762 3 (Some A3))
-    ∷ (entry 4 4276 1 (Some A2)) ∷ (entry 5 1306 2 (Some B2)) ∷ (entry 6 5000 0 (Some A2))
-    ∷ (entry 7 0 1 None) ∷ (entry 8 2185 2 (Some A2)) ∷ [])))
+    (Ok (answer.Queue ((entry rank.Unserved 3965 2 None) ∷ (entry rank.Unacknowledged 3484 1 (Some A3))
+    ∷ (entry rank.LateForScene 1426 1 (Some A3)) ∷ (entry rank.OutOfTurn 1637 1 (Some A3))
+    ∷ (entry rank.OutOfTurn 1762 3 (Some A3))
+    ∷ (entry rank.OutOfTurn 4276 1 (Some A2)) ∷ (entry rank.Overdue 1306 2 (Some B2))
+    ∷ (entry rank.ShiftOver 5000 0 (Some A2))
+    ∷ (entry rank.Uncovered 0 1 None) ∷ (entry rank.Unanswered 2185 2 (Some A2)) ∷ [])))
     before_queue_of_1_and_2_and_3_and_4_and_5_and_6_and_7_and_8
 unfolding machine
 queue_of_1_and_2_and_3_and_4_and_5_and_6_and_7_and_8 = (refl, refl)
@@ -638,9 +646,10 @@ before_queue_of_1_and_2_and_3_and_4_and_6 = record {
 
 queue_of_1_and_2_and_3_and_4_and_6 : Steps
     (at 5000 (Desk 1) ask.Queue) before_queue_of_1_and_2_and_3_and_4_and_6
-    (Ok (answer.Queue ((entry 1 1761 2 None) ∷ (entry 2 1286 1 (Some A1))
-    ∷ (entry 3 1281 1 (Some A1)) ∷ (entry 4 1061 1 (Some A1)) ∷ (entry 4 1347 1 (Some A2))
-    ∷ (entry 6 5000 0 (Some A1)) ∷ []))) before_queue_of_1_and_2_and_3_and_4_and_6
+    (Ok (answer.Queue ((entry rank.Unserved 1761 2 None) ∷ (entry rank.Unacknowledged 1286 1 (Some A1))
+    ∷ (entry rank.LateForScene 1281 1 (Some A1)) ∷ (entry rank.OutOfTurn 1061 1 (Some A1))
+    ∷ (entry rank.OutOfTurn 1347 1 (Some A2))
+    ∷ (entry rank.ShiftOver 5000 0 (Some A1)) ∷ []))) before_queue_of_1_and_2_and_3_and_4_and_6
 unfolding machine
 queue_of_1_and_2_and_3_and_4_and_6 = (refl, refl)
 
@@ -673,9 +682,10 @@ before_queue_of_1_and_2_and_3_and_4_and_6_and_7 = record {
 
 queue_of_1_and_2_and_3_and_4_and_6_and_7 : Steps
     (at 2255 (Desk 1) ask.Queue) before_queue_of_1_and_2_and_3_and_4_and_6_and_7
-    (Ok (answer.Queue ((entry 1 981 1 None) ∷ (entry 2 1775 2 (Some A1))
-    ∷ (entry 3 1167 2 (Some A1)) ∷ (entry 4 1474 3 (Some A1)) ∷ (entry 4 1895 4 (Some A1))
-    ∷ (entry 6 1876 0 (Some A2)) ∷ (entry 7 0 2 None) ∷ [])))
+    (Ok (answer.Queue ((entry rank.Unserved 981 1 None) ∷ (entry rank.Unacknowledged 1775 2 (Some A1))
+    ∷ (entry rank.LateForScene 1167 2 (Some A1)) ∷ (entry rank.OutOfTurn 1474 3 (Some A1))
+    ∷ (entry rank.OutOfTurn 1895 4 (Some A1))
+    ∷ (entry rank.ShiftOver 1876 0 (Some A2)) ∷ (entry rank.Uncovered 0 2 None) ∷ [])))
     before_queue_of_1_and_2_and_3_and_4_and_6_and_7
 unfolding machine
 queue_of_1_and_2_and_3_and_4_and_6_and_7 = (refl, refl)
@@ -711,9 +721,11 @@ before_queue_of_1_and_2_and_3_and_4_and_6_and_8 = record {
 
 queue_of_1_and_2_and_3_and_4_and_6_and_8 : Steps
     (at 40000 (Desk 1) ask.Queue) before_queue_of_1_and_2_and_3_and_4_and_6_and_8
-    (Ok (answer.Queue ((entry 1 1196 1 None) ∷ (entry 1 3452 3 None) ∷ (entry 2 2925 2 (Some A3))
-    ∷ (entry 3 2499 2 (Some A3)) ∷ (entry 4 1287 1 (Some A3)) ∷ (entry 6 3119 0 (Some A3))
-    ∷ (entry 6 6282 0 (Some A2)) ∷ (entry 8 2288 7 (Some A2)) ∷ [])))
+    (Ok (answer.Queue ((entry rank.Unserved 1196 1 None) ∷ (entry rank.Unserved 3452 3 None)
+    ∷ (entry rank.Unacknowledged 2925 2 (Some A3))
+    ∷ (entry rank.LateForScene 2499 2 (Some A3)) ∷ (entry rank.OutOfTurn 1287 1 (Some A3))
+    ∷ (entry rank.ShiftOver 3119 0 (Some A3))
+    ∷ (entry rank.ShiftOver 6282 0 (Some A2)) ∷ (entry rank.Unanswered 2288 7 (Some A2)) ∷ [])))
     before_queue_of_1_and_2_and_3_and_4_and_6_and_8
 unfolding machine
 queue_of_1_and_2_and_3_and_4_and_6_and_8 = (refl, refl)
@@ -749,9 +761,10 @@ before_queue_of_1_and_2_and_3_and_4_and_7 = record {
 
 queue_of_1_and_2_and_3_and_4_and_7 : Steps
     (at 3720 (Desk 1) ask.Queue) before_queue_of_1_and_2_and_3_and_4_and_7
-    (Ok (answer.Queue ((entry 1 3300 2 None) ∷ (entry 2 3331 1 (Some A3))
-    ∷ (entry 3 2639 1 (Some A3)) ∷ (entry 4 1491 1 (Some A2)) ∷ (entry 4 2395 1 (Some A3))
-    ∷ (entry 7 0 2 None) ∷ []))) before_queue_of_1_and_2_and_3_and_4_and_7
+    (Ok (answer.Queue ((entry rank.Unserved 3300 2 None) ∷ (entry rank.Unacknowledged 3331 1 (Some A3))
+    ∷ (entry rank.LateForScene 2639 1 (Some A3)) ∷ (entry rank.OutOfTurn 1491 1 (Some A2))
+    ∷ (entry rank.OutOfTurn 2395 1 (Some A3))
+    ∷ (entry rank.Uncovered 0 2 None) ∷ []))) before_queue_of_1_and_2_and_3_and_4_and_7
 unfolding machine
 queue_of_1_and_2_and_3_and_4_and_7 = (refl, refl)
 
@@ -793,10 +806,11 @@ before_queue_of_1_and_2_and_3_and_4_and_7_and_8 = record {
 
 queue_of_1_and_2_and_3_and_4_and_7_and_8 : Steps
     (at 4309 (Desk 1) ask.Queue) before_queue_of_1_and_2_and_3_and_4_and_7_and_8
-    (Ok (answer.Queue ((entry 1 3468 2 None) ∷ (entry 2 2803 1 (Some A2))
-    ∷ (entry 3 2076 1 (Some A2)) ∷ (entry 4 1574 1 (Some A3)) ∷ (entry 4 2317 1 (Some B2))
-    ∷ (entry 4 3463 2 (Some A3)) ∷ (entry 7 0 1 None) ∷ (entry 7 0 2 None)
-    ∷ (entry 8 2065 2 (Some A1)) ∷ []))) before_queue_of_1_and_2_and_3_and_4_and_7_and_8
+    (Ok (answer.Queue ((entry rank.Unserved 3468 2 None) ∷ (entry rank.Unacknowledged 2803 1 (Some A2))
+    ∷ (entry rank.LateForScene 2076 1 (Some A2)) ∷ (entry rank.OutOfTurn 1574 1 (Some A3))
+    ∷ (entry rank.OutOfTurn 2317 1 (Some B2))
+    ∷ (entry rank.OutOfTurn 3463 2 (Some A3)) ∷ (entry rank.Uncovered 0 1 None) ∷ (entry rank.Uncovered 0 2 None)
+    ∷ (entry rank.Unanswered 2065 2 (Some A1)) ∷ []))) before_queue_of_1_and_2_and_3_and_4_and_7_and_8
 unfolding machine
 queue_of_1_and_2_and_3_and_4_and_7_and_8 = (refl, refl)
 
@@ -829,9 +843,10 @@ before_queue_of_1_and_2_and_3_and_4_and_8 = record {
 
 queue_of_1_and_2_and_3_and_4_and_8 : Steps
     (at 3837 (Desk 1) ask.Queue) before_queue_of_1_and_2_and_3_and_4_and_8
-    (Ok (answer.Queue ((entry 1 1909 1 None) ∷ (entry 2 2894 2 (Some A1))
-    ∷ (entry 3 2662 2 (Some A1)) ∷ (entry 4 2727 3 (Some A1)) ∷ (entry 4 2913 5 (Some A1))
-    ∷ (entry 8 1843 2 (Some A2)) ∷ []))) before_queue_of_1_and_2_and_3_and_4_and_8
+    (Ok (answer.Queue ((entry rank.Unserved 1909 1 None) ∷ (entry rank.Unacknowledged 2894 2 (Some A1))
+    ∷ (entry rank.LateForScene 2662 2 (Some A1)) ∷ (entry rank.OutOfTurn 2727 3 (Some A1))
+    ∷ (entry rank.OutOfTurn 2913 5 (Some A1))
+    ∷ (entry rank.Unanswered 1843 2 (Some A2)) ∷ []))) before_queue_of_1_and_2_and_3_and_4_and_8
 unfolding machine
 queue_of_1_and_2_and_3_and_4_and_8 = (refl, refl)
 
@@ -874,9 +889,10 @@ before_queue_of_1_and_2_and_3_and_5_and_7 = record {
 
 queue_of_1_and_2_and_3_and_5_and_7 : Steps
     (at 3514 (Desk 1) ask.Queue) before_queue_of_1_and_2_and_3_and_5_and_7
-    (Ok (answer.Queue ((entry 1 2041 2 None) ∷ (entry 2 2923 1 (Some B1))
-    ∷ (entry 2 2933 1 (Some A1)) ∷ (entry 3 1186 1 (Some A1)) ∷ (entry 3 1186 1 (Some B1))
-    ∷ (entry 5 2273 2 (Some A1)) ∷ (entry 7 0 1 None) ∷ [])))
+    (Ok (answer.Queue ((entry rank.Unserved 2041 2 None) ∷ (entry rank.Unacknowledged 2923 1 (Some B1))
+    ∷ (entry rank.Unacknowledged 2933 1 (Some A1)) ∷ (entry rank.LateForScene 1186 1 (Some A1))
+    ∷ (entry rank.LateForScene 1186 1 (Some B1))
+    ∷ (entry rank.Overdue 2273 2 (Some A1)) ∷ (entry rank.Uncovered 0 1 None) ∷ [])))
     before_queue_of_1_and_2_and_3_and_5_and_7
 unfolding machine
 queue_of_1_and_2_and_3_and_5_and_7 = (refl, refl)
@@ -904,8 +920,8 @@ before_queue_of_1_and_2_and_3_and_6 = record {
 
 queue_of_1_and_2_and_3_and_6 : Steps
     (at 2428 (Desk 1) ask.Queue) before_queue_of_1_and_2_and_3_and_6
-    (Ok (answer.Queue ((entry 1 1947 2 None) ∷ (entry 2 1947 1 (Some A2))
-    ∷ (entry 3 980 1 (Some A2)) ∷ (entry 6 2000 0 (Some A2)) ∷ [])))
+    (Ok (answer.Queue ((entry rank.Unserved 1947 2 None) ∷ (entry rank.Unacknowledged 1947 1 (Some A2))
+    ∷ (entry rank.LateForScene 980 1 (Some A2)) ∷ (entry rank.ShiftOver 2000 0 (Some A2)) ∷ [])))
     before_queue_of_1_and_2_and_3_and_6
 unfolding machine
 queue_of_1_and_2_and_3_and_6 = (refl, refl)
@@ -945,8 +961,9 @@ before_queue_of_1_and_2_and_3_and_6_and_7 = record {
 
 queue_of_1_and_2_and_3_and_6_and_7 : Steps
     (at 2990 (Desk 1) ask.Queue) before_queue_of_1_and_2_and_3_and_6_and_7
-    (Ok (answer.Queue ((entry 1 2089 5 None) ∷ (entry 2 1863 4 (Some A1))
-    ∷ (entry 3 1040 4 (Some A1)) ∷ (entry 6 2000 0 (Some A1)) ∷ (entry 7 0 2 None) ∷ [])))
+    (Ok (answer.Queue ((entry rank.Unserved 2089 5 None) ∷ (entry rank.Unacknowledged 1863 4 (Some A1))
+    ∷ (entry rank.LateForScene 1040 4 (Some A1)) ∷ (entry rank.ShiftOver 2000 0 (Some A1))
+    ∷ (entry rank.Uncovered 0 2 None) ∷ [])))
     before_queue_of_1_and_2_and_3_and_6_and_7
 unfolding machine
 queue_of_1_and_2_and_3_and_6_and_7 = (refl, refl)
@@ -976,8 +993,8 @@ before_queue_of_1_and_2_and_4 = record {
 }
 
 queue_of_1_and_2_and_4 : Steps (at 1850 (Desk 1) ask.Queue) before_queue_of_1_and_2_and_4
-    (Ok (answer.Queue ((entry 1 1248 5 None) ∷ (entry 2 1730 4 (Some A2))
-    ∷ (entry 4 1061 1 (Some A2)) ∷ []))) before_queue_of_1_and_2_and_4
+    (Ok (answer.Queue ((entry rank.Unserved 1248 5 None) ∷ (entry rank.Unacknowledged 1730 4 (Some A2))
+    ∷ (entry rank.OutOfTurn 1061 1 (Some A2)) ∷ []))) before_queue_of_1_and_2_and_4
 unfolding machine
 queue_of_1_and_2_and_4 = (refl, refl)
 
@@ -1011,8 +1028,9 @@ before_queue_of_1_and_2_and_4_and_5 = record {
 
 queue_of_1_and_2_and_4_and_5 : Steps
     (at 3417 (Desk 1) ask.Queue) before_queue_of_1_and_2_and_4_and_5
-    (Ok (answer.Queue ((entry 1 2243 1 None) ∷ (entry 2 3084 2 (Some A3))
-    ∷ (entry 4 1582 3 (Some A2)) ∷ (entry 4 2567 2 (Some A2)) ∷ (entry 5 1581 2 (Some A2))
+    (Ok (answer.Queue ((entry rank.Unserved 2243 1 None) ∷ (entry rank.Unacknowledged 3084 2 (Some A3))
+    ∷ (entry rank.OutOfTurn 1582 3 (Some A2)) ∷ (entry rank.OutOfTurn 2567 2 (Some A2))
+    ∷ (entry rank.Overdue 1581 2 (Some A2))
     ∷ []))) before_queue_of_1_and_2_and_4_and_5
 unfolding machine
 queue_of_1_and_2_and_4_and_5 = (refl, refl)
@@ -1047,8 +1065,10 @@ before_queue_of_1_and_2_and_4_and_6 = record {
 
 queue_of_1_and_2_and_4_and_6 : Steps
     (at 5777 (Desk 1) ask.Queue) before_queue_of_1_and_2_and_4_and_6
-    (Ok (answer.Queue ((entry 1 1157 1 None) ∷ (entry 1 1277 2 None) ∷ (entry 1 1490 4 None)
-    ∷ (entry 2 1937 3 (Some A1)) ∷ (entry 4 1005 1 (Some A3)) ∷ (entry 6 2000 0 (Some A1))
+    (Ok (answer.Queue
+    ((entry rank.Unserved 1157 1 None) ∷ (entry rank.Unserved 1277 2 None) ∷ (entry rank.Unserved 1490 4 None)
+    ∷ (entry rank.Unacknowledged 1937 3 (Some A1)) ∷ (entry rank.OutOfTurn 1005 1 (Some A3))
+    ∷ (entry rank.ShiftOver 2000 0 (Some A1))
     ∷ []))) before_queue_of_1_and_2_and_4_and_6
 unfolding machine
 queue_of_1_and_2_and_4_and_6 = (refl, refl)
@@ -1087,9 +1107,12 @@ before_queue_of_1_and_2_and_4_and_6_and_7 = record {
 
 queue_of_1_and_2_and_4_and_6_and_7 : Steps
     (at 4248 (Desk 1) ask.Queue) before_queue_of_1_and_2_and_4_and_6_and_7
-    (Ok (answer.Queue ((entry 1 3058 2 None) ∷ (entry 1 3959 3 None) ∷ (entry 2 3581 1 (Some A2))
-    ∷ (entry 4 1643 2 (Some A1)) ∷ (entry 4 2375 4 (Some A1)) ∷ (entry 4 3339 2 (Some A2))
-    ∷ (entry 4 3400 3 (Some A2)) ∷ (entry 6 2000 0 (Some A1)) ∷ (entry 7 0 1 None) ∷ [])))
+    (Ok (answer.Queue ((entry rank.Unserved 3058 2 None) ∷ (entry rank.Unserved 3959 3 None)
+    ∷ (entry rank.Unacknowledged 3581 1 (Some A2))
+    ∷ (entry rank.OutOfTurn 1643 2 (Some A1)) ∷ (entry rank.OutOfTurn 2375 4 (Some A1))
+    ∷ (entry rank.OutOfTurn 3339 2 (Some A2))
+    ∷ (entry rank.OutOfTurn 3400 3 (Some A2)) ∷ (entry rank.ShiftOver 2000 0 (Some A1))
+    ∷ (entry rank.Uncovered 0 1 None) ∷ [])))
     before_queue_of_1_and_2_and_4_and_6_and_7
 unfolding machine
 queue_of_1_and_2_and_4_and_6_and_7 = (refl, refl)
@@ -1131,8 +1154,10 @@ before_queue_of_1_and_2_and_4_and_7 = record {
 
 queue_of_1_and_2_and_4_and_7 : Steps
     (at 4999 (Desk 1) ask.Queue) before_queue_of_1_and_2_and_4_and_7
-    (Ok (answer.Queue ((entry 1 2303 1 None) ∷ (entry 1 3639 3 None) ∷ (entry 1 4121 4 None)
-    ∷ (entry 2 3977 2 (Some A3)) ∷ (entry 4 1614 3 (Some A3)) ∷ (entry 7 0 1 None) ∷ [])))
+    (Ok (answer.Queue
+    ((entry rank.Unserved 2303 1 None) ∷ (entry rank.Unserved 3639 3 None) ∷ (entry rank.Unserved 4121 4 None)
+    ∷ (entry rank.Unacknowledged 3977 2 (Some A3)) ∷ (entry rank.OutOfTurn 1614 3 (Some A3))
+    ∷ (entry rank.Uncovered 0 1 None) ∷ [])))
     before_queue_of_1_and_2_and_4_and_7
 unfolding machine
 queue_of_1_and_2_and_4_and_7 = (refl, refl)
@@ -1171,8 +1196,9 @@ before_queue_of_1_and_2_and_5_and_8 = record {
 
 queue_of_1_and_2_and_5_and_8 : Steps
     (at 5001 (Desk 1) ask.Queue) before_queue_of_1_and_2_and_5_and_8
-    (Ok (answer.Queue ((entry 1 1491 1 None) ∷ (entry 1 2391 3 None) ∷ (entry 2 4940 2 (Some A1))
-    ∷ (entry 5 3604 2 (Some A1)) ∷ (entry 8 2942 2 (Some A2)) ∷ [])))
+    (Ok (answer.Queue ((entry rank.Unserved 1491 1 None) ∷ (entry rank.Unserved 2391 3 None)
+    ∷ (entry rank.Unacknowledged 4940 2 (Some A1))
+    ∷ (entry rank.Overdue 3604 2 (Some A1)) ∷ (entry rank.Unanswered 2942 2 (Some A2)) ∷ [])))
     before_queue_of_1_and_2_and_5_and_8
 unfolding machine
 queue_of_1_and_2_and_5_and_8 = (refl, refl)
@@ -1199,7 +1225,8 @@ before_queue_of_1_and_2_and_7 = record {
 }
 
 queue_of_1_and_2_and_7 : Steps (at 3028 (Desk 1) ask.Queue) before_queue_of_1_and_2_and_7
-    (Ok (answer.Queue ((entry 1 1963 1 None) ∷ (entry 2 2806 2 (Some A2)) ∷ (entry 7 0 2 None)
+    (Ok (answer.Queue
+    ((entry rank.Unserved 1963 1 None) ∷ (entry rank.Unacknowledged 2806 2 (Some A2)) ∷ (entry rank.Uncovered 0 2 None)
     ∷ []))) before_queue_of_1_and_2_and_7
 unfolding machine
 queue_of_1_and_2_and_7 = (refl, refl)
@@ -1232,8 +1259,8 @@ before_queue_of_1_and_3_and_4 = record {
 }
 
 queue_of_1_and_3_and_4 : Steps (at 3425 (Desk 1) ask.Queue) before_queue_of_1_and_3_and_4
-    (Ok (answer.Queue ((entry 1 2249 5 None) ∷ (entry 3 1847 4 (Some A1))
-    ∷ (entry 4 1035 1 (Some A2)) ∷ (entry 4 1516 2 (Some A2)) ∷ [])))
+    (Ok (answer.Queue ((entry rank.Unserved 2249 5 None) ∷ (entry rank.LateForScene 1847 4 (Some A1))
+    ∷ (entry rank.OutOfTurn 1035 1 (Some A2)) ∷ (entry rank.OutOfTurn 1516 2 (Some A2)) ∷ [])))
     before_queue_of_1_and_3_and_4
 unfolding machine
 queue_of_1_and_3_and_4 = (refl, refl)
@@ -1279,9 +1306,11 @@ before_queue_of_1_and_3_and_4_and_5 = record {
 
 queue_of_1_and_3_and_4_and_5 : Steps
     (at 4930 (Desk 1) ask.Queue) before_queue_of_1_and_3_and_4_and_5
-    (Ok (answer.Queue ((entry 1 1812 1 None) ∷ (entry 1 4361 3 None) ∷ (entry 3 2653 2 (Some A1))
-    ∷ (entry 4 1331 2 (Some A3)) ∷ (entry 4 2413 1 (Some A3)) ∷ (entry 4 4380 2 (Some A2))
-    ∷ (entry 5 4503 7 (Some A1)) ∷ []))) before_queue_of_1_and_3_and_4_and_5
+    (Ok (answer.Queue
+    ((entry rank.Unserved 1812 1 None) ∷ (entry rank.Unserved 4361 3 None) ∷ (entry rank.LateForScene 2653 2 (Some A1))
+    ∷ (entry rank.OutOfTurn 1331 2 (Some A3)) ∷ (entry rank.OutOfTurn 2413 1 (Some A3))
+    ∷ (entry rank.OutOfTurn 4380 2 (Some A2))
+    ∷ (entry rank.Overdue 4503 7 (Some A1)) ∷ []))) before_queue_of_1_and_3_and_4_and_5
 unfolding machine
 queue_of_1_and_3_and_4_and_5 = (refl, refl)
 
@@ -1327,9 +1356,12 @@ before_queue_of_1_and_3_and_4_and_5_and_8 = record {
 
 queue_of_1_and_3_and_4_and_5_and_8 : Steps
     (at 3644 (Desk 1) ask.Queue) before_queue_of_1_and_3_and_4_and_5_and_8
-    (Ok (answer.Queue ((entry 1 2824 3 None) ∷ (entry 1 3005 4 None) ∷ (entry 3 2061 2 (Some B1))
-    ∷ (entry 4 1562 2 (Some A3)) ∷ (entry 4 1684 2 (Some A1)) ∷ (entry 4 2613 1 (Some A1))
-    ∷ (entry 4 3659 6 (Some B1)) ∷ (entry 5 1683 2 (Some A1)) ∷ (entry 8 2834 2 (Some A3))
+    (Ok (answer.Queue
+    ((entry rank.Unserved 2824 3 None) ∷ (entry rank.Unserved 3005 4 None) ∷ (entry rank.LateForScene 2061 2 (Some B1))
+    ∷ (entry rank.OutOfTurn 1562 2 (Some A3)) ∷ (entry rank.OutOfTurn 1684 2 (Some A1))
+    ∷ (entry rank.OutOfTurn 2613 1 (Some A1))
+    ∷ (entry rank.OutOfTurn 3659 6 (Some B1)) ∷ (entry rank.Overdue 1683 2 (Some A1))
+    ∷ (entry rank.Unanswered 2834 2 (Some A3))
     ∷ []))) before_queue_of_1_and_3_and_4_and_5_and_8
 unfolding machine
 queue_of_1_and_3_and_4_and_5_and_8 = (refl, refl)
@@ -1362,8 +1394,8 @@ before_queue_of_1_and_3_and_4_and_6 = record {
 
 queue_of_1_and_3_and_4_and_6 : Steps
     (at 6548 (Desk 1) ask.Queue) before_queue_of_1_and_3_and_4_and_6
-    (Ok (answer.Queue ((entry 1 1066 4 None) ∷ (entry 3 1071 5 (Some A2))
-    ∷ (entry 4 1638 1 (Some A2)) ∷ (entry 6 6548 0 (Some A3)) ∷ [])))
+    (Ok (answer.Queue ((entry rank.Unserved 1066 4 None) ∷ (entry rank.LateForScene 1071 5 (Some A2))
+    ∷ (entry rank.OutOfTurn 1638 1 (Some A2)) ∷ (entry rank.ShiftOver 6548 0 (Some A3)) ∷ [])))
     before_queue_of_1_and_3_and_4_and_6
 unfolding machine
 queue_of_1_and_3_and_4_and_6 = (refl, refl)
@@ -1394,8 +1426,9 @@ before_queue_of_1_and_3_and_4_and_6_and_7 = record {
 
 queue_of_1_and_3_and_4_and_6_and_7 : Steps
     (at 6227 (Desk 1) ask.Queue) before_queue_of_1_and_3_and_4_and_6_and_7
-    (Ok (answer.Queue ((entry 1 2626 5 None) ∷ (entry 3 1301 4 (Some A2))
-    ∷ (entry 4 2687 1 (Some A1)) ∷ (entry 6 5000 0 (Some A2)) ∷ (entry 7 0 1 None) ∷ [])))
+    (Ok (answer.Queue ((entry rank.Unserved 2626 5 None) ∷ (entry rank.LateForScene 1301 4 (Some A2))
+    ∷ (entry rank.OutOfTurn 2687 1 (Some A1)) ∷ (entry rank.ShiftOver 5000 0 (Some A2))
+    ∷ (entry rank.Uncovered 0 1 None) ∷ [])))
     before_queue_of_1_and_3_and_4_and_6_and_7
 unfolding machine
 queue_of_1_and_3_and_4_and_6_and_7 = (refl, refl)
@@ -1430,8 +1463,9 @@ before_queue_of_1_and_3_and_4_and_6_and_8 = record {
 
 queue_of_1_and_3_and_4_and_6_and_8 : Steps
     (at 5000 (Desk 1) ask.Queue) before_queue_of_1_and_3_and_4_and_6_and_8
-    (Ok (answer.Queue ((entry 1 2925 2 None) ∷ (entry 3 2084 1 (Some A3))
-    ∷ (entry 4 1603 1 (Some A1)) ∷ (entry 6 5000 0 (Some A1)) ∷ (entry 8 2089 2 (Some A1))
+    (Ok (answer.Queue ((entry rank.Unserved 2925 2 None) ∷ (entry rank.LateForScene 2084 1 (Some A3))
+    ∷ (entry rank.OutOfTurn 1603 1 (Some A1)) ∷ (entry rank.ShiftOver 5000 0 (Some A1))
+    ∷ (entry rank.Unanswered 2089 2 (Some A1))
     ∷ []))) before_queue_of_1_and_3_and_4_and_6_and_8
 unfolding machine
 queue_of_1_and_3_and_4_and_6_and_8 = (refl, refl)
@@ -1468,8 +1502,9 @@ before_queue_of_1_and_3_and_4_and_7 = record {
 
 queue_of_1_and_3_and_4_and_7 : Steps
     (at 3271 (Desk 1) ask.Queue) before_queue_of_1_and_3_and_4_and_7
-    (Ok (answer.Queue ((entry 1 1961 5 None) ∷ (entry 3 1120 4 (Some A3))
-    ∷ (entry 4 1401 1 (Some A3)) ∷ (entry 4 3423 1 (Some A2)) ∷ (entry 7 0 1 None) ∷ [])))
+    (Ok (answer.Queue ((entry rank.Unserved 1961 5 None) ∷ (entry rank.LateForScene 1120 4 (Some A3))
+    ∷ (entry rank.OutOfTurn 1401 1 (Some A3)) ∷ (entry rank.OutOfTurn 3423 1 (Some A2))
+    ∷ (entry rank.Uncovered 0 1 None) ∷ [])))
     before_queue_of_1_and_3_and_4_and_7
 unfolding machine
 queue_of_1_and_3_and_4_and_7 = (refl, refl)
@@ -1505,8 +1540,9 @@ before_queue_of_1_and_3_and_4_and_8 = record {
 
 queue_of_1_and_3_and_4_and_8 : Steps
     (at 3406 (Desk 1) ask.Queue) before_queue_of_1_and_3_and_4_and_8
-    (Ok (answer.Queue ((entry 1 2925 2 None) ∷ (entry 3 2084 1 (Some A3))
-    ∷ (entry 4 1603 1 (Some A1)) ∷ (entry 4 3089 2 (Some A3)) ∷ (entry 8 2089 2 (Some A1))
+    (Ok (answer.Queue ((entry rank.Unserved 2925 2 None) ∷ (entry rank.LateForScene 2084 1 (Some A3))
+    ∷ (entry rank.OutOfTurn 1603 1 (Some A1)) ∷ (entry rank.OutOfTurn 3089 2 (Some A3))
+    ∷ (entry rank.Unanswered 2089 2 (Some A1))
     ∷ []))) before_queue_of_1_and_3_and_4_and_8
 unfolding machine
 queue_of_1_and_3_and_4_and_8 = (refl, refl)
@@ -1552,9 +1588,11 @@ before_queue_of_1_and_3_and_5_and_6_and_7 = record {
 
 queue_of_1_and_3_and_5_and_6_and_7 : Steps
     (at 5409 (Desk 1) ask.Queue) before_queue_of_1_and_3_and_5_and_6_and_7
-    (Ok (answer.Queue ((entry 1 1091 1 None) ∷ (entry 1 1571 2 None) ∷ (entry 1 2411 3 None)
-    ∷ (entry 3 4508 4 (Some A1)) ∷ (entry 5 3056 2 (Some A1)) ∷ (entry 6 5000 0 (Some A1))
-    ∷ (entry 7 0 1 None) ∷ []))) before_queue_of_1_and_3_and_5_and_6_and_7
+    (Ok (answer.Queue
+    ((entry rank.Unserved 1091 1 None) ∷ (entry rank.Unserved 1571 2 None) ∷ (entry rank.Unserved 2411 3 None)
+    ∷ (entry rank.LateForScene 4508 4 (Some A1)) ∷ (entry rank.Overdue 3056 2 (Some A1))
+    ∷ (entry rank.ShiftOver 5000 0 (Some A1))
+    ∷ (entry rank.Uncovered 0 1 None) ∷ []))) before_queue_of_1_and_3_and_5_and_6_and_7
 unfolding machine
 queue_of_1_and_3_and_5_and_6_and_7 = (refl, refl)
 
@@ -1589,8 +1627,10 @@ before_queue_of_1_and_3_and_6_and_7 = record {
 
 queue_of_1_and_3_and_6_and_7 : Steps
     (at 4306 (Desk 1) ask.Queue) before_queue_of_1_and_3_and_6_and_7
-    (Ok (answer.Queue ((entry 1 1848 2 None) ∷ (entry 1 2148 3 None) ∷ (entry 1 3218 4 None)
-    ∷ (entry 3 1667 1 (Some A2)) ∷ (entry 6 2000 0 (Some A2)) ∷ (entry 7 0 2 None) ∷ [])))
+    (Ok (answer.Queue
+    ((entry rank.Unserved 1848 2 None) ∷ (entry rank.Unserved 2148 3 None) ∷ (entry rank.Unserved 3218 4 None)
+    ∷ (entry rank.LateForScene 1667 1 (Some A2)) ∷ (entry rank.ShiftOver 2000 0 (Some A2))
+    ∷ (entry rank.Uncovered 0 2 None) ∷ [])))
     before_queue_of_1_and_3_and_6_and_7
 unfolding machine
 queue_of_1_and_3_and_6_and_7 = (refl, refl)
@@ -1626,8 +1666,8 @@ before_queue_of_1_and_3_and_8 = record {
 }
 
 queue_of_1_and_3_and_8 : Steps (at 3443 (Desk 1) ask.Queue) before_queue_of_1_and_3_and_8
-    (Ok (answer.Queue ((entry 1 1875 4 None) ∷ (entry 3 1161 5 (Some A2))
-    ∷ (entry 8 1202 2 (Some A3)) ∷ []))) before_queue_of_1_and_3_and_8
+    (Ok (answer.Queue ((entry rank.Unserved 1875 4 None) ∷ (entry rank.LateForScene 1161 5 (Some A2))
+    ∷ (entry rank.Unanswered 1202 2 (Some A3)) ∷ []))) before_queue_of_1_and_3_and_8
 unfolding machine
 queue_of_1_and_3_and_8 = (refl, refl)
 
@@ -1656,7 +1696,7 @@ before_queue_of_1_and_4 = record {
 }
 
 queue_of_1_and_4 : Steps (at 1467 (Desk 1) ask.Queue) before_queue_of_1_and_4
-    (Ok (answer.Queue ((entry 1 1061 4 None) ∷ (entry 4 1467 3 (Some A3)) ∷ [])))
+    (Ok (answer.Queue ((entry rank.Unserved 1061 4 None) ∷ (entry rank.OutOfTurn 1467 3 (Some A3)) ∷ [])))
     before_queue_of_1_and_4
 unfolding machine
 queue_of_1_and_4 = (refl, refl)
@@ -1682,8 +1722,8 @@ before_queue_of_1_and_4_and_5 = record {
 }
 
 queue_of_1_and_4_and_5 : Steps (at 5001 (Desk 1) ask.Queue) before_queue_of_1_and_4_and_5
-    (Ok (answer.Queue ((entry 1 3046 4 None) ∷ (entry 4 1100 1 (Some A2))
-    ∷ (entry 5 980 7 (Some A2)) ∷ []))) before_queue_of_1_and_4_and_5
+    (Ok (answer.Queue ((entry rank.Unserved 3046 4 None) ∷ (entry rank.OutOfTurn 1100 1 (Some A2))
+    ∷ (entry rank.Overdue 980 7 (Some A2)) ∷ []))) before_queue_of_1_and_4_and_5
 unfolding machine
 queue_of_1_and_4_and_5 = (refl, refl)
 
@@ -1710,8 +1750,9 @@ before_queue_of_1_and_4_and_5_and_6 = record {
 
 queue_of_1_and_4_and_5_and_6 : Steps
     (at 1670 (Desk 1) ask.Queue) before_queue_of_1_and_4_and_5_and_6
-    (Ok (answer.Queue ((entry 1 1338 1 None) ∷ (entry 4 1272 1 (Some A3))
-    ∷ (entry 4 1459 2 (Some A3)) ∷ (entry 5 1458 2 (Some B1)) ∷ (entry 6 1530 0 (Some A3))
+    (Ok (answer.Queue ((entry rank.Unserved 1338 1 None) ∷ (entry rank.OutOfTurn 1272 1 (Some A3))
+    ∷ (entry rank.OutOfTurn 1459 2 (Some A3)) ∷ (entry rank.Overdue 1458 2 (Some B1))
+    ∷ (entry rank.ShiftOver 1530 0 (Some A3))
     ∷ []))) before_queue_of_1_and_4_and_5_and_6
 unfolding machine
 queue_of_1_and_4_and_5_and_6 = (refl, refl)
@@ -1742,8 +1783,10 @@ before_queue_of_1_and_4_and_5_and_6_and_7 = record {
 
 queue_of_1_and_4_and_5_and_6_and_7 : Steps
     (at 40000 (Desk 1) ask.Queue) before_queue_of_1_and_4_and_5_and_6_and_7
-    (Ok (answer.Queue ((entry 1 1602 1 None) ∷ (entry 1 1612 2 None) ∷ (entry 4 2336 1 (Some A3))
-    ∷ (entry 5 2101 7 (Some A1)) ∷ (entry 6 40000 0 (Some A1)) ∷ (entry 7 0 1 None) ∷ [])))
+    (Ok (answer.Queue
+    ((entry rank.Unserved 1602 1 None) ∷ (entry rank.Unserved 1612 2 None) ∷ (entry rank.OutOfTurn 2336 1 (Some A3))
+    ∷ (entry rank.Overdue 2101 7 (Some A1)) ∷ (entry rank.ShiftOver 40000 0 (Some A1)) ∷ (entry rank.Uncovered 0 1 None)
+    ∷ [])))
     before_queue_of_1_and_4_and_5_and_6_and_7
 unfolding machine
 queue_of_1_and_4_and_5_and_6_and_7 = (refl, refl)
@@ -1772,9 +1815,10 @@ before_queue_of_1_and_4_and_5_and_6_and_8 = record {
 
 queue_of_1_and_4_and_5_and_6_and_8 : Steps
     (at 3156 (Desk 1) ask.Queue) before_queue_of_1_and_4_and_5_and_6_and_8
-    (Ok (answer.Queue ((entry 1 986 1 None) ∷ (entry 4 1006 1 (Some A2))
-    ∷ (entry 4 1529 1 (Some A3)) ∷ (entry 5 1830 2 (Some B1)) ∷ (entry 6 2000 0 (Some A3))
-    ∷ (entry 8 2311 2 (Some A2)) ∷ []))) before_queue_of_1_and_4_and_5_and_6_and_8
+    (Ok (answer.Queue ((entry rank.Unserved 986 1 None) ∷ (entry rank.OutOfTurn 1006 1 (Some A2))
+    ∷ (entry rank.OutOfTurn 1529 1 (Some A3)) ∷ (entry rank.Overdue 1830 2 (Some B1))
+    ∷ (entry rank.ShiftOver 2000 0 (Some A3))
+    ∷ (entry rank.Unanswered 2311 2 (Some A2)) ∷ []))) before_queue_of_1_and_4_and_5_and_6_and_8
 unfolding machine
 queue_of_1_and_4_and_5_and_6_and_8 = (refl, refl)
 
@@ -1802,8 +1846,9 @@ before_queue_of_1_and_4_and_5_and_7 = record {
 
 queue_of_1_and_4_and_5_and_7 : Steps
     (at 2528 (Desk 2) ask.Queue) before_queue_of_1_and_4_and_5_and_7
-    (Ok (answer.Queue ((entry 1 1643 1 None) ∷ (entry 4 980 1 (Some A2))
-    ∷ (entry 4 2526 1 (Some A3)) ∷ (entry 5 980 1 (Some A1)) ∷ (entry 7 0 2 None) ∷ [])))
+    (Ok (answer.Queue ((entry rank.Unserved 1643 1 None) ∷ (entry rank.OutOfTurn 980 1 (Some A2))
+    ∷ (entry rank.OutOfTurn 2526 1 (Some A3)) ∷ (entry rank.Overdue 980 1 (Some A1)) ∷ (entry rank.Uncovered 0 2 None)
+    ∷ [])))
     before_queue_of_1_and_4_and_5_and_7
 unfolding machine
 queue_of_1_and_4_and_5_and_7 = (refl, refl)
@@ -1843,9 +1888,10 @@ before_queue_of_1_and_4_and_5_and_7_and_8 = record {
 
 queue_of_1_and_4_and_5_and_7_and_8 : Steps
     (at 3686 (Desk 1) ask.Queue) before_queue_of_1_and_4_and_5_and_7_and_8
-    (Ok (answer.Queue ((entry 1 3430 4 None) ∷ (entry 4 1882 1 (Some A3))
-    ∷ (entry 4 1993 3 (Some A3)) ∷ (entry 4 2064 4 (Some A3)) ∷ (entry 5 2382 2 (Some A2))
-    ∷ (entry 7 0 1 None) ∷ (entry 8 3177 2 (Some A1)) ∷ [])))
+    (Ok (answer.Queue ((entry rank.Unserved 3430 4 None) ∷ (entry rank.OutOfTurn 1882 1 (Some A3))
+    ∷ (entry rank.OutOfTurn 1993 3 (Some A3)) ∷ (entry rank.OutOfTurn 2064 4 (Some A3))
+    ∷ (entry rank.Overdue 2382 2 (Some A2))
+    ∷ (entry rank.Uncovered 0 1 None) ∷ (entry rank.Unanswered 3177 2 (Some A1)) ∷ [])))
     before_queue_of_1_and_4_and_5_and_7_and_8
 unfolding machine
 queue_of_1_and_4_and_5_and_7_and_8 = (refl, refl)
@@ -1876,8 +1922,8 @@ before_queue_of_1_and_4_and_5_and_8 = record {
 
 queue_of_1_and_4_and_5_and_8 : Steps
     (at 3173 (Desk 7) ask.Queue) before_queue_of_1_and_4_and_5_and_8
-    (Ok (answer.Queue ((entry 1 1363 4 None) ∷ (entry 4 1968 1 (Some A2))
-    ∷ (entry 5 1061 1 (Some A3)) ∷ (entry 8 2511 1 (Some A1)) ∷ [])))
+    (Ok (answer.Queue ((entry rank.Unserved 1363 4 None) ∷ (entry rank.OutOfTurn 1968 1 (Some A2))
+    ∷ (entry rank.Overdue 1061 1 (Some A3)) ∷ (entry rank.Unanswered 2511 1 (Some A1)) ∷ [])))
     before_queue_of_1_and_4_and_5_and_8
 unfolding machine
 queue_of_1_and_4_and_5_and_8 = (refl, refl)
@@ -1907,8 +1953,8 @@ before_queue_of_1_and_4_and_6 = record {
 }
 
 queue_of_1_and_4_and_6 : Steps (at 2145 (Desk 1) ask.Queue) before_queue_of_1_and_4_and_6
-    (Ok (answer.Queue ((entry 1 1602 1 None) ∷ (entry 4 1482 1 (Some A1))
-    ∷ (entry 6 2000 0 (Some A1)) ∷ []))) before_queue_of_1_and_4_and_6
+    (Ok (answer.Queue ((entry rank.Unserved 1602 1 None) ∷ (entry rank.OutOfTurn 1482 1 (Some A1))
+    ∷ (entry rank.ShiftOver 2000 0 (Some A1)) ∷ []))) before_queue_of_1_and_4_and_6
 unfolding machine
 queue_of_1_and_4_and_6 = (refl, refl)
 
@@ -1941,9 +1987,10 @@ before_queue_of_1_and_4_and_6_2 = record {
 }
 
 queue_of_1_and_4_and_6_2 : Steps (at 40000 (Desk 1) ask.Queue) before_queue_of_1_and_4_and_6_2
-    (Ok (answer.Queue ((entry 1 4792 5 None) ∷ (entry 4 1412 1 (Some A1))
-    ∷ (entry 4 1413 1 (Some B1)) ∷ (entry 4 2139 2 (Some B1)) ∷ (entry 4 2501 5 (Some B1))
-    ∷ (entry 6 2000 0 (Some B1)) ∷ (entry 6 40000 0 (Some A3)) ∷ [])))
+    (Ok (answer.Queue ((entry rank.Unserved 4792 5 None) ∷ (entry rank.OutOfTurn 1412 1 (Some A1))
+    ∷ (entry rank.OutOfTurn 1413 1 (Some B1)) ∷ (entry rank.OutOfTurn 2139 2 (Some B1))
+    ∷ (entry rank.OutOfTurn 2501 5 (Some B1))
+    ∷ (entry rank.ShiftOver 2000 0 (Some B1)) ∷ (entry rank.ShiftOver 40000 0 (Some A3)) ∷ [])))
     before_queue_of_1_and_4_and_6_2
 unfolding machine
 queue_of_1_and_4_and_6_2 = (refl, refl)
@@ -1975,8 +2022,10 @@ before_queue_of_1_and_4_and_6_and_7 = record {
 
 queue_of_1_and_4_and_6_and_7 : Steps
     (at 2657 (Desk 1) ask.Queue) before_queue_of_1_and_4_and_6_and_7
-    (Ok (answer.Queue ((entry 1 1362 1 None) ∷ (entry 1 2476 2 None) ∷ (entry 4 1704 1 (Some A2))
-    ∷ (entry 4 2496 2 (Some A2)) ∷ (entry 6 2000 0 (Some A2)) ∷ (entry 7 0 2 None) ∷ [])))
+    (Ok (answer.Queue
+    ((entry rank.Unserved 1362 1 None) ∷ (entry rank.Unserved 2476 2 None) ∷ (entry rank.OutOfTurn 1704 1 (Some A2))
+    ∷ (entry rank.OutOfTurn 2496 2 (Some A2)) ∷ (entry rank.ShiftOver 2000 0 (Some A2))
+    ∷ (entry rank.Uncovered 0 2 None) ∷ [])))
     before_queue_of_1_and_4_and_6_and_7
 unfolding machine
 queue_of_1_and_4_and_6_and_7 = (refl, refl)
@@ -2009,9 +2058,10 @@ before_queue_of_1_and_4_and_6_and_7_and_8 = record {
 
 queue_of_1_and_4_and_6_and_7_and_8 : Steps
     (at 5000 (Desk 1) ask.Queue) before_queue_of_1_and_4_and_6_and_7_and_8
-    (Ok (answer.Queue ((entry 1 1000 2147483647 None) ∷ (entry 4 2347 2 (Some A1))
-    ∷ (entry 6 5000 0 (Some A1)) ∷ (entry 6 5000 0 (Some A3)) ∷ (entry 7 0 1 None)
-    ∷ (entry 8 1523 2 (Some A3)) ∷ []))) before_queue_of_1_and_4_and_6_and_7_and_8
+    (Ok (answer.Queue ((entry rank.Unserved 1000 2147483647 None) ∷ (entry rank.OutOfTurn 2347 2 (Some A1))
+    ∷ (entry rank.ShiftOver 5000 0 (Some A1)) ∷ (entry rank.ShiftOver 5000 0 (Some A3))
+    ∷ (entry rank.Uncovered 0 1 None)
+    ∷ (entry rank.Unanswered 1523 2 (Some A3)) ∷ []))) before_queue_of_1_and_4_and_6_and_7_and_8
 unfolding machine
 queue_of_1_and_4_and_6_and_7_and_8 = (refl, refl)
 
@@ -2036,8 +2086,8 @@ before_queue_of_1_and_4_and_6_and_8 = record {
 
 queue_of_1_and_4_and_6_and_8 : Steps
     (at 5000 (Desk 1) ask.Queue) before_queue_of_1_and_4_and_6_and_8
-    (Ok (answer.Queue ((entry 1 1100 2147483647 None) ∷ (entry 4 980 1 (Some A1))
-    ∷ (entry 6 5000 0 (Some A1)) ∷ (entry 8 1080 2 (Some A2)) ∷ [])))
+    (Ok (answer.Queue ((entry rank.Unserved 1100 2147483647 None) ∷ (entry rank.OutOfTurn 980 1 (Some A1))
+    ∷ (entry rank.ShiftOver 5000 0 (Some A1)) ∷ (entry rank.Unanswered 1080 2 (Some A2)) ∷ [])))
     before_queue_of_1_and_4_and_6_and_8
 unfolding machine
 queue_of_1_and_4_and_6_and_8 = (refl, refl)
@@ -2061,7 +2111,8 @@ before_queue_of_1_and_4_and_7 = record {
 }
 
 queue_of_1_and_4_and_7 : Steps (at 5112 (Desk 1) ask.Queue) before_queue_of_1_and_4_and_7
-    (Ok (answer.Queue ((entry 1 1511 1 None) ∷ (entry 4 1516 1 (Some A2)) ∷ (entry 7 0 1 None)
+    (Ok (answer.Queue
+    ((entry rank.Unserved 1511 1 None) ∷ (entry rank.OutOfTurn 1516 1 (Some A2)) ∷ (entry rank.Uncovered 0 1 None)
     ∷ []))) before_queue_of_1_and_4_and_7
 unfolding machine
 queue_of_1_and_4_and_7 = (refl, refl)
@@ -2085,8 +2136,9 @@ before_queue_of_1_and_4_and_7_and_8 = record {
 
 queue_of_1_and_4_and_7_and_8 : Steps
     (at 4999 (Desk 1) ask.Queue) before_queue_of_1_and_4_and_7_and_8
-    (Ok (answer.Queue ((entry 1 1030 1 None) ∷ (entry 4 1541 1 (Some A2)) ∷ (entry 7 0 2 None)
-    ∷ (entry 8 2204 2 (Some A1)) ∷ []))) before_queue_of_1_and_4_and_7_and_8
+    (Ok (answer.Queue
+    ((entry rank.Unserved 1030 1 None) ∷ (entry rank.OutOfTurn 1541 1 (Some A2)) ∷ (entry rank.Uncovered 0 2 None)
+    ∷ (entry rank.Unanswered 2204 2 (Some A1)) ∷ []))) before_queue_of_1_and_4_and_7_and_8
 unfolding machine
 queue_of_1_and_4_and_7_and_8 = (refl, refl)
 
@@ -2115,8 +2167,8 @@ before_queue_of_1_and_4_and_8 = record {
 }
 
 queue_of_1_and_4_and_8 : Steps (at 2054 (Desk 1) ask.Queue) before_queue_of_1_and_4_and_8
-    (Ok (answer.Queue ((entry 1 1694 1 None) ∷ (entry 4 1030 2 (Some A2))
-    ∷ (entry 4 1393 4 (Some A2)) ∷ (entry 8 1694 7 (Some A1)) ∷ [])))
+    (Ok (answer.Queue ((entry rank.Unserved 1694 1 None) ∷ (entry rank.OutOfTurn 1030 2 (Some A2))
+    ∷ (entry rank.OutOfTurn 1393 4 (Some A2)) ∷ (entry rank.Unanswered 1694 7 (Some A1)) ∷ [])))
     before_queue_of_1_and_4_and_8
 unfolding machine
 queue_of_1_and_4_and_8 = (refl, refl)
@@ -2139,7 +2191,7 @@ before_queue_of_1_and_5 = record {
 }
 
 queue_of_1_and_5 : Steps (at 39999 (Desk 1) ask.Queue) before_queue_of_1_and_5
-    (Ok (answer.Queue ((entry 1 1005 1 None) ∷ (entry 5 1100 2 (Some A1)) ∷ [])))
+    (Ok (answer.Queue ((entry rank.Unserved 1005 1 None) ∷ (entry rank.Overdue 1100 2 (Some A1)) ∷ [])))
     before_queue_of_1_and_5
 unfolding machine
 queue_of_1_and_5 = (refl, refl)
@@ -2169,8 +2221,8 @@ before_queue_of_1_and_5_and_6 = record {
 }
 
 queue_of_1_and_5_and_6 : Steps (at 2757 (Desk 1) ask.Queue) before_queue_of_1_and_5_and_6
-    (Ok (answer.Queue ((entry 1 2576 1 None) ∷ (entry 5 2100 7 (Some A1))
-    ∷ (entry 6 2000 0 (Some A2)) ∷ []))) before_queue_of_1_and_5_and_6
+    (Ok (answer.Queue ((entry rank.Unserved 2576 1 None) ∷ (entry rank.Overdue 2100 7 (Some A1))
+    ∷ (entry rank.ShiftOver 2000 0 (Some A2)) ∷ []))) before_queue_of_1_and_5_and_6
 unfolding machine
 queue_of_1_and_5_and_6 = (refl, refl)
 
@@ -2204,8 +2256,8 @@ before_queue_of_1_and_5_and_6_and_7 = record {
 
 queue_of_1_and_5_and_6_and_7 : Steps
     (at 3590 (Desk 1) ask.Queue) before_queue_of_1_and_5_and_6_and_7
-    (Ok (answer.Queue ((entry 1 2340 1 None) ∷ (entry 5 2441 2 (Some A1))
-    ∷ (entry 6 2966 0 (Some B1)) ∷ (entry 7 0 2 None) ∷ [])))
+    (Ok (answer.Queue ((entry rank.Unserved 2340 1 None) ∷ (entry rank.Overdue 2441 2 (Some A1))
+    ∷ (entry rank.ShiftOver 2966 0 (Some B1)) ∷ (entry rank.Uncovered 0 2 None) ∷ [])))
     before_queue_of_1_and_5_and_6_and_7
 unfolding machine
 queue_of_1_and_5_and_6_and_7 = (refl, refl)
@@ -2233,8 +2285,8 @@ before_queue_of_1_and_5_and_6_and_8 = record {
 
 queue_of_1_and_5_and_6_and_8 : Steps
     (at 2519 (Desk 7) ask.Queue) before_queue_of_1_and_5_and_6_and_8
-    (Ok (answer.Queue ((entry 1 1679 1 None) ∷ (entry 5 1312 1 (Some A2))
-    ∷ (entry 6 2000 0 (Some A2)) ∷ (entry 8 1613 1 (Some A1)) ∷ [])))
+    (Ok (answer.Queue ((entry rank.Unserved 1679 1 None) ∷ (entry rank.Overdue 1312 1 (Some A2))
+    ∷ (entry rank.ShiftOver 2000 0 (Some A2)) ∷ (entry rank.Unanswered 1613 1 (Some A1)) ∷ [])))
     before_queue_of_1_and_5_and_6_and_8
 unfolding machine
 queue_of_1_and_5_and_6_and_8 = (refl, refl)
@@ -2261,7 +2313,8 @@ before_queue_of_1_and_5_and_7 = record {
 }
 
 queue_of_1_and_5_and_7 : Steps (at 40000 (Desk 1) ask.Queue) before_queue_of_1_and_5_and_7
-    (Ok (answer.Queue ((entry 1 1047 1 None) ∷ (entry 5 1608 7 (Some A3)) ∷ (entry 7 0 1 None)
+    (Ok (answer.Queue
+    ((entry rank.Unserved 1047 1 None) ∷ (entry rank.Overdue 1608 7 (Some A3)) ∷ (entry rank.Uncovered 0 1 None)
     ∷ []))) before_queue_of_1_and_5_and_7
 unfolding machine
 queue_of_1_and_5_and_7 = (refl, refl)
@@ -2284,8 +2337,8 @@ before_queue_of_1_and_5_and_8 = record {
 }
 
 queue_of_1_and_5_and_8 : Steps (at 39999 (Desk 1) ask.Queue) before_queue_of_1_and_5_and_8
-    (Ok (answer.Queue ((entry 1 1120 1 None) ∷ (entry 5 1401 2 (Some A1))
-    ∷ (entry 8 1612 2 (Some A2)) ∷ []))) before_queue_of_1_and_5_and_8
+    (Ok (answer.Queue ((entry rank.Unserved 1120 1 None) ∷ (entry rank.Overdue 1401 2 (Some A1))
+    ∷ (entry rank.Unanswered 1612 2 (Some A2)) ∷ []))) before_queue_of_1_and_5_and_8
 unfolding machine
 queue_of_1_and_5_and_8 = (refl, refl)
 
@@ -2308,7 +2361,7 @@ before_queue_of_1_and_6 = record {
 }
 
 queue_of_1_and_6 : Steps (at 2301 (Desk 2) ask.Queue) before_queue_of_1_and_6
-    (Ok (answer.Queue ((entry 1 980 1 None) ∷ (entry 6 2000 0 (Some A3)) ∷ [])))
+    (Ok (answer.Queue ((entry rank.Unserved 980 1 None) ∷ (entry rank.ShiftOver 2000 0 (Some A3)) ∷ [])))
     before_queue_of_1_and_6
 unfolding machine
 queue_of_1_and_6 = (refl, refl)
@@ -2333,8 +2386,8 @@ before_queue_of_1_and_6_and_7 = record {
 }
 
 queue_of_1_and_6_and_7 : Steps (at 2129 (Desk 1) ask.Queue) before_queue_of_1_and_6_and_7
-    (Ok (answer.Queue ((entry 1 1487 1 None) ∷ (entry 6 2000 0 (Some A2))
-    ∷ (entry 6 2000 0 (Some B1)) ∷ (entry 7 0 2 None) ∷ []))) before_queue_of_1_and_6_and_7
+    (Ok (answer.Queue ((entry rank.Unserved 1487 1 None) ∷ (entry rank.ShiftOver 2000 0 (Some A2))
+    ∷ (entry rank.ShiftOver 2000 0 (Some B1)) ∷ (entry rank.Uncovered 0 2 None) ∷ []))) before_queue_of_1_and_6_and_7
 unfolding machine
 queue_of_1_and_6_and_7 = (refl, refl)
 
@@ -2368,9 +2421,11 @@ before_queue_of_1_and_6_and_7_and_8 = record {
 
 queue_of_1_and_6_and_7_and_8 : Steps
     (at 5001 (Desk 1) ask.Queue) before_queue_of_1_and_6_and_7_and_8
-    (Ok (answer.Queue ((entry 1 1311 1 None) ∷ (entry 1 1314 2 None) ∷ (entry 6 2000 0 (Some B2))
-    ∷ (entry 6 5000 0 (Some A3)) ∷ (entry 6 5000 0 (Some B1)) ∷ (entry 7 0 1 None)
-    ∷ (entry 8 1010 2 (Some A1)) ∷ []))) before_queue_of_1_and_6_and_7_and_8
+    (Ok (answer.Queue
+    ((entry rank.Unserved 1311 1 None) ∷ (entry rank.Unserved 1314 2 None) ∷ (entry rank.ShiftOver 2000 0 (Some B2))
+    ∷ (entry rank.ShiftOver 5000 0 (Some A3)) ∷ (entry rank.ShiftOver 5000 0 (Some B1))
+    ∷ (entry rank.Uncovered 0 1 None)
+    ∷ (entry rank.Unanswered 1010 2 (Some A1)) ∷ []))) before_queue_of_1_and_6_and_7_and_8
 unfolding machine
 queue_of_1_and_6_and_7_and_8 = (refl, refl)
 
@@ -2392,8 +2447,8 @@ before_queue_of_1_and_6_and_8 = record {
 }
 
 queue_of_1_and_6_and_8 : Steps (at 40000 (Desk 1) ask.Queue) before_queue_of_1_and_6_and_8
-    (Ok (answer.Queue ((entry 1 2540 1 None) ∷ (entry 6 2000 0 (Some A2))
-    ∷ (entry 8 2059 2 (Some A1)) ∷ []))) before_queue_of_1_and_6_and_8
+    (Ok (answer.Queue ((entry rank.Unserved 2540 1 None) ∷ (entry rank.ShiftOver 2000 0 (Some A2))
+    ∷ (entry rank.Unanswered 2059 2 (Some A1)) ∷ []))) before_queue_of_1_and_6_and_8
 unfolding machine
 queue_of_1_and_6_and_8 = (refl, refl)
 
@@ -2426,7 +2481,8 @@ before_queue_of_1_and_7 = record {
 }
 
 queue_of_1_and_7 : Steps (at 2940 (Desk 2) ask.Queue) before_queue_of_1_and_7
-    (Ok (answer.Queue ((entry 1 1421 4 None) ∷ (entry 7 0 2 None) ∷ []))) before_queue_of_1_and_7
+    (Ok (answer.Queue ((entry rank.Unserved 1421 4 None) ∷ (entry rank.Uncovered 0 2 None) ∷ [])))
+    before_queue_of_1_and_7
 unfolding machine
 queue_of_1_and_7 = (refl, refl)
 
@@ -2449,7 +2505,8 @@ before_queue_of_1_and_7_and_8 = record {
 }
 
 queue_of_1_and_7_and_8 : Steps (at 2110 (Desk 1) ask.Queue) before_queue_of_1_and_7_and_8
-    (Ok (answer.Queue ((entry 1 1543 1 None) ∷ (entry 7 0 1 None) ∷ (entry 8 1482 2 (Some A2))
+    (Ok (answer.Queue
+    ((entry rank.Unserved 1543 1 None) ∷ (entry rank.Uncovered 0 1 None) ∷ (entry rank.Unanswered 1482 2 (Some A2))
     ∷ []))) before_queue_of_1_and_7_and_8
 unfolding machine
 queue_of_1_and_7_and_8 = (refl, refl)
@@ -2488,7 +2545,7 @@ before_queue_of_1_and_8 = record {
 }
 
 queue_of_1_and_8 : Steps (at 3133 (Desk 2) ask.Queue) before_queue_of_1_and_8
-    (Ok (answer.Queue ((entry 1 2112 4 None) ∷ (entry 8 2688 1 (Some A1)) ∷ [])))
+    (Ok (answer.Queue ((entry rank.Unserved 2112 4 None) ∷ (entry rank.Unanswered 2688 1 (Some A1)) ∷ [])))
     before_queue_of_1_and_8
 unfolding machine
 queue_of_1_and_8 = (refl, refl)
@@ -2515,7 +2572,7 @@ before_queue_of_2 = record {
 }
 
 queue_of_2 : Steps (at 5232 (Desk 1) ask.Queue) before_queue_of_2
-    (Ok (answer.Queue ((entry 2 2532 1 (Some A1)) ∷ []))) before_queue_of_2
+    (Ok (answer.Queue ((entry rank.Unacknowledged 2532 1 (Some A1)) ∷ []))) before_queue_of_2
 unfolding machine
 queue_of_2 = (refl, refl)
 
@@ -2537,7 +2594,7 @@ before_queue_of_2_and_3 = record {
 }
 
 queue_of_2_and_3 : Steps (at 2052 (Desk 2) ask.Queue) before_queue_of_2_and_3
-    (Ok (answer.Queue ((entry 2 1372 1 (Some A1)) ∷ (entry 3 1152 1 (Some A1)) ∷ [])))
+    (Ok (answer.Queue ((entry rank.Unacknowledged 1372 1 (Some A1)) ∷ (entry rank.LateForScene 1152 1 (Some A1)) ∷ [])))
     before_queue_of_2_and_3
 unfolding machine
 queue_of_2_and_3 = (refl, refl)
@@ -2564,8 +2621,8 @@ before_queue_of_2_and_3_and_4 = record {
 }
 
 queue_of_2_and_3_and_4 : Steps (at 2060 (Desk 1) ask.Queue) before_queue_of_2_and_3_and_4
-    (Ok (answer.Queue ((entry 2 1123 1 (Some A1)) ∷ (entry 3 1061 1 (Some A1))
-    ∷ (entry 4 1243 1 (Some A2)) ∷ (entry 4 1724 1 (Some A1)) ∷ [])))
+    (Ok (answer.Queue ((entry rank.Unacknowledged 1123 1 (Some A1)) ∷ (entry rank.LateForScene 1061 1 (Some A1))
+    ∷ (entry rank.OutOfTurn 1243 1 (Some A2)) ∷ (entry rank.OutOfTurn 1724 1 (Some A1)) ∷ [])))
     before_queue_of_2_and_3_and_4
 unfolding machine
 queue_of_2_and_3_and_4 = (refl, refl)
@@ -2607,9 +2664,10 @@ before_queue_of_2_and_3_and_4_and_5 = record {
 
 queue_of_2_and_3_and_4_and_5 : Steps
     (at 3822 (Desk 2) ask.Queue) before_queue_of_2_and_3_and_4_and_5
-    (Ok (answer.Queue ((entry 2 3326 1 (Some A3)) ∷ (entry 3 1272 1 (Some A3))
-    ∷ (entry 4 1122 1 (Some B1)) ∷ (entry 4 1936 1 (Some A2)) ∷ (entry 4 3025 1 (Some A3))
-    ∷ (entry 5 1121 1 (Some A3)) ∷ []))) before_queue_of_2_and_3_and_4_and_5
+    (Ok (answer.Queue ((entry rank.Unacknowledged 3326 1 (Some A3)) ∷ (entry rank.LateForScene 1272 1 (Some A3))
+    ∷ (entry rank.OutOfTurn 1122 1 (Some B1)) ∷ (entry rank.OutOfTurn 1936 1 (Some A2))
+    ∷ (entry rank.OutOfTurn 3025 1 (Some A3))
+    ∷ (entry rank.Overdue 1121 1 (Some A3)) ∷ []))) before_queue_of_2_and_3_and_4_and_5
 unfolding machine
 queue_of_2_and_3_and_4_and_5 = (refl, refl)
 
@@ -2641,11 +2699,14 @@ before_queue_of_2_and_3_and_4_and_5_and_6_and_7 = record {
 
 queue_of_2_and_3_and_4_and_5_and_6_and_7 : Steps
     (at 40001 (Desk 1) ask.Queue) before_queue_of_2_and_3_and_4_and_5_and_6_and_7
-    (Ok (answer.Queue ((entry 2 2001 1 (Some A1)) ∷ (entry 2 3098 1 (Some A3))
-    ∷ (entry 3 2197 1 (Some A1)) ∷ (entry 3 2197 1 (Some A3)) ∷ (entry 4 1301 1 (Some B1))
-    ∷ (entry 4 1674 1 (Some A1)) ∷ (entry 5 1764 2 (Some A2)) ∷ (entry 6 2000 0 (Some B1))
-    ∷ (entry 6 3339 0 (Some A1)) ∷ (entry 6 40000 0 (Some A2)) ∷ (entry 6 40000 0 (Some A3))
-    ∷ (entry 7 0 1 None) ∷ (entry 7 0 2 None) ∷ [])))
+    (Ok (answer.Queue ((entry rank.Unacknowledged 2001 1 (Some A1)) ∷ (entry rank.Unacknowledged 3098 1 (Some A3))
+    ∷ (entry rank.LateForScene 2197 1 (Some A1)) ∷ (entry rank.LateForScene 2197 1 (Some A3))
+    ∷ (entry rank.OutOfTurn 1301 1 (Some B1))
+    ∷ (entry rank.OutOfTurn 1674 1 (Some A1)) ∷ (entry rank.Overdue 1764 2 (Some A2))
+    ∷ (entry rank.ShiftOver 2000 0 (Some B1))
+    ∷ (entry rank.ShiftOver 3339 0 (Some A1)) ∷ (entry rank.ShiftOver 40000 0 (Some A2))
+    ∷ (entry rank.ShiftOver 40000 0 (Some A3))
+    ∷ (entry rank.Uncovered 0 1 None) ∷ (entry rank.Uncovered 0 2 None) ∷ [])))
     before_queue_of_2_and_3_and_4_and_5_and_6_and_7
 unfolding machine
 queue_of_2_and_3_and_4_and_5_and_6_and_7 = (refl, refl)
@@ -2679,9 +2740,10 @@ before_queue_of_2_and_3_and_4_and_5_and_7 = record {
 
 queue_of_2_and_3_and_4_and_5_and_7 : Steps
     (at 2062 (Desk 1) ask.Queue) before_queue_of_2_and_3_and_4_and_5_and_7
-    (Ok (answer.Queue ((entry 2 2001 1 (Some A2)) ∷ (entry 3 1247 1 (Some A2))
-    ∷ (entry 4 1127 1 (Some A3)) ∷ (entry 4 1729 3 (Some A3)) ∷ (entry 4 1759 1 (Some A1))
-    ∷ (entry 5 1066 7 (Some A3)) ∷ (entry 7 0 1 None) ∷ [])))
+    (Ok (answer.Queue ((entry rank.Unacknowledged 2001 1 (Some A2)) ∷ (entry rank.LateForScene 1247 1 (Some A2))
+    ∷ (entry rank.OutOfTurn 1127 1 (Some A3)) ∷ (entry rank.OutOfTurn 1729 3 (Some A3))
+    ∷ (entry rank.OutOfTurn 1759 1 (Some A1))
+    ∷ (entry rank.Overdue 1066 7 (Some A3)) ∷ (entry rank.Uncovered 0 1 None) ∷ [])))
     before_queue_of_2_and_3_and_4_and_5_and_7
 unfolding machine
 queue_of_2_and_3_and_4_and_5_and_7 = (refl, refl)
@@ -2714,8 +2776,9 @@ before_queue_of_2_and_3_and_4_and_6 = record {
 
 queue_of_2_and_3_and_4_and_6 : Steps
     (at 5728 (Desk 1) ask.Queue) before_queue_of_2_and_3_and_4_and_6
-    (Ok (answer.Queue ((entry 2 2714 1 (Some A1)) ∷ (entry 3 2127 1 (Some A1))
-    ∷ (entry 4 1001 2 (Some A1)) ∷ (entry 4 2433 3 (Some A1)) ∷ (entry 6 5000 0 (Some A3))
+    (Ok (answer.Queue ((entry rank.Unacknowledged 2714 1 (Some A1)) ∷ (entry rank.LateForScene 2127 1 (Some A1))
+    ∷ (entry rank.OutOfTurn 1001 2 (Some A1)) ∷ (entry rank.OutOfTurn 2433 3 (Some A1))
+    ∷ (entry rank.ShiftOver 5000 0 (Some A3))
     ∷ []))) before_queue_of_2_and_3_and_4_and_6
 unfolding machine
 queue_of_2_and_3_and_4_and_6 = (refl, refl)
@@ -2743,8 +2806,9 @@ before_queue_of_2_and_3_and_4_and_6_and_7 = record {
 
 queue_of_2_and_3_and_4_and_6_and_7 : Steps
     (at 40001 (Desk 1) ask.Queue) before_queue_of_2_and_3_and_4_and_6_and_7
-    (Ok (answer.Queue ((entry 2 2106 4 (Some A3)) ∷ (entry 3 2105 4 (Some A3))
-    ∷ (entry 4 1803 1 (Some A3)) ∷ (entry 6 40000 0 (Some A3)) ∷ (entry 7 0 1 None) ∷ [])))
+    (Ok (answer.Queue ((entry rank.Unacknowledged 2106 4 (Some A3)) ∷ (entry rank.LateForScene 2105 4 (Some A3))
+    ∷ (entry rank.OutOfTurn 1803 1 (Some A3)) ∷ (entry rank.ShiftOver 40000 0 (Some A3))
+    ∷ (entry rank.Uncovered 0 1 None) ∷ [])))
     before_queue_of_2_and_3_and_4_and_6_and_7
 unfolding machine
 queue_of_2_and_3_and_4_and_6_and_7 = (refl, refl)
@@ -2779,9 +2843,10 @@ before_queue_of_2_and_3_and_4_and_6_and_7_and_8 = record {
 
 queue_of_2_and_3_and_4_and_6_and_7_and_8 : Steps
     (at 40001 (Desk 1) ask.Queue) before_queue_of_2_and_3_and_4_and_6_and_7_and_8
-    (Ok (answer.Queue ((entry 2 1678 1 (Some A3)) ∷ (entry 3 980 1 (Some A3))
-    ∷ (entry 4 1497 2 (Some A1)) ∷ (entry 4 1679 3 (Some A1)) ∷ (entry 6 40000 0 (Some A3))
-    ∷ (entry 7 0 1 None) ∷ (entry 8 3137 2 (Some A1)) ∷ [])))
+    (Ok (answer.Queue ((entry rank.Unacknowledged 1678 1 (Some A3)) ∷ (entry rank.LateForScene 980 1 (Some A3))
+    ∷ (entry rank.OutOfTurn 1497 2 (Some A1)) ∷ (entry rank.OutOfTurn 1679 3 (Some A1))
+    ∷ (entry rank.ShiftOver 40000 0 (Some A3))
+    ∷ (entry rank.Uncovered 0 1 None) ∷ (entry rank.Unanswered 3137 2 (Some A1)) ∷ [])))
     before_queue_of_2_and_3_and_4_and_6_and_7_and_8
 unfolding machine
 queue_of_2_and_3_and_4_and_6_and_7_and_8 = (refl, refl)
@@ -2816,9 +2881,10 @@ before_queue_of_2_and_3_and_4_and_6_and_8 = record {
 
 queue_of_2_and_3_and_4_and_6_and_8 : Steps
     (at 42280 (Desk 1) ask.Queue) before_queue_of_2_and_3_and_4_and_6_and_8
-    (Ok (answer.Queue ((entry 2 1999 4 (Some A1)) ∷ (entry 3 2124 4 (Some A1))
-    ∷ (entry 4 2274 1 (Some B2)) ∷ (entry 6 5000 0 (Some B1)) ∷ (entry 6 40000 0 (Some B2))
-    ∷ (entry 8 3324 2 (Some B2)) ∷ []))) before_queue_of_2_and_3_and_4_and_6_and_8
+    (Ok (answer.Queue ((entry rank.Unacknowledged 1999 4 (Some A1)) ∷ (entry rank.LateForScene 2124 4 (Some A1))
+    ∷ (entry rank.OutOfTurn 2274 1 (Some B2)) ∷ (entry rank.ShiftOver 5000 0 (Some B1))
+    ∷ (entry rank.ShiftOver 40000 0 (Some B2))
+    ∷ (entry rank.Unanswered 3324 2 (Some B2)) ∷ []))) before_queue_of_2_and_3_and_4_and_6_and_8
 unfolding machine
 queue_of_2_and_3_and_4_and_6_and_8 = (refl, refl)
 
@@ -2847,9 +2913,10 @@ before_queue_of_2_and_3_and_4_and_7 = record {
 
 queue_of_2_and_3_and_4_and_7 : Steps
     (at 4567 (Desk 1) ask.Queue) before_queue_of_2_and_3_and_4_and_7
-    (Ok (answer.Queue ((entry 2 2867 1 (Some A2)) ∷ (entry 3 1967 1 (Some A2))
-    ∷ (entry 4 2509 1 (Some A3)) ∷ (entry 4 2510 2 (Some A3)) ∷ (entry 4 4140 1 (Some A2))
-    ∷ (entry 7 0 1 None) ∷ []))) before_queue_of_2_and_3_and_4_and_7
+    (Ok (answer.Queue ((entry rank.Unacknowledged 2867 1 (Some A2)) ∷ (entry rank.LateForScene 1967 1 (Some A2))
+    ∷ (entry rank.OutOfTurn 2509 1 (Some A3)) ∷ (entry rank.OutOfTurn 2510 2 (Some A3))
+    ∷ (entry rank.OutOfTurn 4140 1 (Some A2))
+    ∷ (entry rank.Uncovered 0 1 None) ∷ []))) before_queue_of_2_and_3_and_4_and_7
 unfolding machine
 queue_of_2_and_3_and_4_and_7 = (refl, refl)
 
@@ -2881,10 +2948,12 @@ before_queue_of_2_and_3_and_4_and_8 = record {
 
 queue_of_2_and_3_and_4_and_8 : Steps
     (at 2922 (Desk 2) ask.Queue) before_queue_of_2_and_3_and_4_and_8
-    (Ok (answer.Queue ((entry 2 2801 1 (Some A1)) ∷ (entry 3 1888 1 (Some A1))
-    ∷ (entry 4 1191 1 (Some A3)) ∷ (entry 4 1191 2 (Some B1)) ∷ (entry 4 1702 2 (Some A1))
-    ∷ (entry 4 1707 3 (Some B1)) ∷ (entry 4 2500 4 (Some B1)) ∷ (entry 4 2921 1 (Some A2))
-    ∷ (entry 8 2013 1 (Some A2)) ∷ []))) before_queue_of_2_and_3_and_4_and_8
+    (Ok (answer.Queue ((entry rank.Unacknowledged 2801 1 (Some A1)) ∷ (entry rank.LateForScene 1888 1 (Some A1))
+    ∷ (entry rank.OutOfTurn 1191 1 (Some A3)) ∷ (entry rank.OutOfTurn 1191 2 (Some B1))
+    ∷ (entry rank.OutOfTurn 1702 2 (Some A1))
+    ∷ (entry rank.OutOfTurn 1707 3 (Some B1)) ∷ (entry rank.OutOfTurn 2500 4 (Some B1))
+    ∷ (entry rank.OutOfTurn 2921 1 (Some A2))
+    ∷ (entry rank.Unanswered 2013 1 (Some A2)) ∷ []))) before_queue_of_2_and_3_and_4_and_8
 unfolding machine
 queue_of_2_and_3_and_4_and_8 = (refl, refl)
 
@@ -2916,8 +2985,8 @@ before_queue_of_2_and_3_and_5 = record {
 }
 
 queue_of_2_and_3_and_5 : Steps (at 3032 (Desk 1) ask.Queue) before_queue_of_2_and_3_and_5
-    (Ok (answer.Queue ((entry 2 2267 4 (Some B1)) ∷ (entry 3 1786 4 (Some B1))
-    ∷ (entry 5 2542 2 (Some A1)) ∷ []))) before_queue_of_2_and_3_and_5
+    (Ok (answer.Queue ((entry rank.Unacknowledged 2267 4 (Some B1)) ∷ (entry rank.LateForScene 1786 4 (Some B1))
+    ∷ (entry rank.Overdue 2542 2 (Some A1)) ∷ []))) before_queue_of_2_and_3_and_5
 unfolding machine
 queue_of_2_and_3_and_5 = (refl, refl)
 
@@ -2942,8 +3011,8 @@ before_queue_of_2_and_3_and_6 = record {
 }
 
 queue_of_2_and_3_and_6 : Steps (at 2366 (Desk 1) ask.Queue) before_queue_of_2_and_3_and_6
-    (Ok (answer.Queue ((entry 2 2305 4 (Some A2)) ∷ (entry 3 1281 4 (Some A2))
-    ∷ (entry 6 2326 0 (Some A2)) ∷ []))) before_queue_of_2_and_3_and_6
+    (Ok (answer.Queue ((entry rank.Unacknowledged 2305 4 (Some A2)) ∷ (entry rank.LateForScene 1281 4 (Some A2))
+    ∷ (entry rank.ShiftOver 2326 0 (Some A2)) ∷ []))) before_queue_of_2_and_3_and_6
 unfolding machine
 queue_of_2_and_3_and_6 = (refl, refl)
 
@@ -2974,8 +3043,9 @@ before_queue_of_2_and_3_and_6_and_7 = record {
 
 queue_of_2_and_3_and_6_and_7 : Steps
     (at 4999 (Desk 1) ask.Queue) before_queue_of_2_and_3_and_6_and_7
-    (Ok (answer.Queue ((entry 2 2000 1 (Some B2)) ∷ (entry 3 1061 1 (Some B2))
-    ∷ (entry 6 2000 0 (Some A2)) ∷ (entry 6 2000 0 (Some A3)) ∷ (entry 7 0 1 None) ∷ [])))
+    (Ok (answer.Queue ((entry rank.Unacknowledged 2000 1 (Some B2)) ∷ (entry rank.LateForScene 1061 1 (Some B2))
+    ∷ (entry rank.ShiftOver 2000 0 (Some A2)) ∷ (entry rank.ShiftOver 2000 0 (Some A3))
+    ∷ (entry rank.Uncovered 0 1 None) ∷ [])))
     before_queue_of_2_and_3_and_6_and_7
 unfolding machine
 queue_of_2_and_3_and_6_and_7 = (refl, refl)
@@ -3011,9 +3081,10 @@ before_queue_of_2_and_3_and_6_and_7_and_8 = record {
 
 queue_of_2_and_3_and_6_and_7_and_8 : Steps
     (at 3284 (Desk 1) ask.Queue) before_queue_of_2_and_3_and_6_and_7_and_8
-    (Ok (answer.Queue ((entry 2 1553 1 (Some A1)) ∷ (entry 3 1513 1 (Some A1))
-    ∷ (entry 3 1513 1 (Some A3)) ∷ (entry 6 2000 0 (Some A1)) ∷ (entry 7 0 2 None)
-    ∷ (entry 8 1030 2 (Some A2)) ∷ []))) before_queue_of_2_and_3_and_6_and_7_and_8
+    (Ok (answer.Queue ((entry rank.Unacknowledged 1553 1 (Some A1)) ∷ (entry rank.LateForScene 1513 1 (Some A1))
+    ∷ (entry rank.LateForScene 1513 1 (Some A3)) ∷ (entry rank.ShiftOver 2000 0 (Some A1))
+    ∷ (entry rank.Uncovered 0 2 None)
+    ∷ (entry rank.Unanswered 1030 2 (Some A2)) ∷ []))) before_queue_of_2_and_3_and_6_and_7_and_8
 unfolding machine
 queue_of_2_and_3_and_6_and_7_and_8 = (refl, refl)
 
@@ -3045,8 +3116,9 @@ before_queue_of_2_and_3_and_6_and_8 = record {
 
 queue_of_2_and_3_and_6_and_8 : Steps
     (at 40000 (Desk 2) ask.Queue) before_queue_of_2_and_3_and_6_and_8
-    (Ok (answer.Queue ((entry 2 1913 1 (Some A1)) ∷ (entry 3 1822 1 (Some A1))
-    ∷ (entry 6 40000 0 (Some A1)) ∷ (entry 6 40000 0 (Some A2)) ∷ (entry 8 2875 1 (Some A2))
+    (Ok (answer.Queue ((entry rank.Unacknowledged 1913 1 (Some A1)) ∷ (entry rank.LateForScene 1822 1 (Some A1))
+    ∷ (entry rank.ShiftOver 40000 0 (Some A1)) ∷ (entry rank.ShiftOver 40000 0 (Some A2))
+    ∷ (entry rank.Unanswered 2875 1 (Some A2))
     ∷ []))) before_queue_of_2_and_3_and_6_and_8
 unfolding machine
 queue_of_2_and_3_and_6_and_8 = (refl, refl)
@@ -3074,7 +3146,8 @@ before_queue_of_2_and_3_and_7 = record {
 }
 
 queue_of_2_and_3_and_7 : Steps (at 2971 (Desk 1) ask.Queue) before_queue_of_2_and_3_and_7
-    (Ok (answer.Queue ((entry 2 2616 1 (Some A1)) ∷ (entry 3 2130 1 (Some A1)) ∷ (entry 7 0 2 None)
+    (Ok (answer.Queue ((entry rank.Unacknowledged 2616 1 (Some A1)) ∷ (entry rank.LateForScene 2130 1 (Some A1))
+    ∷ (entry rank.Uncovered 0 2 None)
     ∷ []))) before_queue_of_2_and_3_and_7
 unfolding machine
 queue_of_2_and_3_and_7 = (refl, refl)
@@ -3110,8 +3183,8 @@ before_queue_of_2_and_3_and_8 = record {
 }
 
 queue_of_2_and_3_and_8 : Steps (at 4387 (Desk 2) ask.Queue) before_queue_of_2_and_3_and_8
-    (Ok (answer.Queue ((entry 2 1913 1 (Some A1)) ∷ (entry 3 1822 1 (Some A1))
-    ∷ (entry 8 2875 1 (Some A2)) ∷ (entry 8 2976 1 (Some B1)) ∷ [])))
+    (Ok (answer.Queue ((entry rank.Unacknowledged 1913 1 (Some A1)) ∷ (entry rank.LateForScene 1822 1 (Some A1))
+    ∷ (entry rank.Unanswered 2875 1 (Some A2)) ∷ (entry rank.Unanswered 2976 1 (Some B1)) ∷ [])))
     before_queue_of_2_and_3_and_8
 unfolding machine
 queue_of_2_and_3_and_8 = (refl, refl)
@@ -3145,7 +3218,7 @@ before_queue_of_2_and_4 = record {
 }
 
 queue_of_2_and_4 : Steps (at 3474 (Desk 2) ask.Queue) before_queue_of_2_and_4
-    (Ok (answer.Queue ((entry 2 2814 1 (Some A2)) ∷ (entry 4 2376 4 (Some A2)) ∷ [])))
+    (Ok (answer.Queue ((entry rank.Unacknowledged 2814 1 (Some A2)) ∷ (entry rank.OutOfTurn 2376 4 (Some A2)) ∷ [])))
     before_queue_of_2_and_4
 unfolding machine
 queue_of_2_and_4 = (refl, refl)
@@ -3174,8 +3247,8 @@ before_queue_of_2_and_4_and_5 = record {
 }
 
 queue_of_2_and_4_and_5 : Steps (at 4999 (Desk 1) ask.Queue) before_queue_of_2_and_4_and_5
-    (Ok (answer.Queue ((entry 2 4807 4 (Some A3)) ∷ (entry 4 1662 1 (Some A2))
-    ∷ (entry 4 4291 4 (Some A3)) ∷ (entry 5 2917 2 (Some A3)) ∷ [])))
+    (Ok (answer.Queue ((entry rank.Unacknowledged 4807 4 (Some A3)) ∷ (entry rank.OutOfTurn 1662 1 (Some A2))
+    ∷ (entry rank.OutOfTurn 4291 4 (Some A3)) ∷ (entry rank.Overdue 2917 2 (Some A3)) ∷ [])))
     before_queue_of_2_and_4_and_5
 unfolding machine
 queue_of_2_and_4_and_5 = (refl, refl)
@@ -3204,8 +3277,8 @@ before_queue_of_2_and_4_and_6 = record {
 }
 
 queue_of_2_and_4_and_6 : Steps (at 1763 (Desk 1) ask.Queue) before_queue_of_2_and_4_and_6
-    (Ok (answer.Queue ((entry 2 1643 1 (Some A3)) ∷ (entry 4 1522 1 (Some B1))
-    ∷ (entry 4 1523 1 (Some A1)) ∷ (entry 6 1151 0 (Some A1)) ∷ [])))
+    (Ok (answer.Queue ((entry rank.Unacknowledged 1643 1 (Some A3)) ∷ (entry rank.OutOfTurn 1522 1 (Some B1))
+    ∷ (entry rank.OutOfTurn 1523 1 (Some A1)) ∷ (entry rank.ShiftOver 1151 0 (Some A1)) ∷ [])))
     before_queue_of_2_and_4_and_6
 unfolding machine
 queue_of_2_and_4_and_6 = (refl, refl)
@@ -3242,9 +3315,10 @@ before_queue_of_2_and_4_and_6_and_7 = record {
 
 queue_of_2_and_4_and_6_and_7 : Steps
     (at 3705 (Desk 2) ask.Queue) before_queue_of_2_and_4_and_6_and_7
-    (Ok (answer.Queue ((entry 2 2200 1 (Some A1)) ∷ (entry 4 1366 1 (Some A2))
-    ∷ (entry 4 2215 1 (Some A3)) ∷ (entry 4 2943 2 (Some A3)) ∷ (entry 6 2000 0 (Some A2))
-    ∷ (entry 7 0 2 None) ∷ []))) before_queue_of_2_and_4_and_6_and_7
+    (Ok (answer.Queue ((entry rank.Unacknowledged 2200 1 (Some A1)) ∷ (entry rank.OutOfTurn 1366 1 (Some A2))
+    ∷ (entry rank.OutOfTurn 2215 1 (Some A3)) ∷ (entry rank.OutOfTurn 2943 2 (Some A3))
+    ∷ (entry rank.ShiftOver 2000 0 (Some A2))
+    ∷ (entry rank.Uncovered 0 2 None) ∷ []))) before_queue_of_2_and_4_and_6_and_7
 unfolding machine
 queue_of_2_and_4_and_6_and_7 = (refl, refl)
 
@@ -3281,9 +3355,10 @@ before_queue_of_2_and_4_and_6_and_8 = record {
 
 queue_of_2_and_4_and_6_and_8 : Steps
     (at 3563 (Desk 2) ask.Queue) before_queue_of_2_and_4_and_6_and_8
-    (Ok (answer.Queue ((entry 2 3051 4 (Some B1)) ∷ (entry 4 1582 1 (Some A2))
-    ∷ (entry 4 1587 3 (Some A2)) ∷ (entry 4 2870 1 (Some B2)) ∷ (entry 6 2102 0 (Some B2))
-    ∷ (entry 8 2630 1 (Some A3)) ∷ []))) before_queue_of_2_and_4_and_6_and_8
+    (Ok (answer.Queue ((entry rank.Unacknowledged 3051 4 (Some B1)) ∷ (entry rank.OutOfTurn 1582 1 (Some A2))
+    ∷ (entry rank.OutOfTurn 1587 3 (Some A2)) ∷ (entry rank.OutOfTurn 2870 1 (Some B2))
+    ∷ (entry rank.ShiftOver 2102 0 (Some B2))
+    ∷ (entry rank.Unanswered 2630 1 (Some A3)) ∷ []))) before_queue_of_2_and_4_and_6_and_8
 unfolding machine
 queue_of_2_and_4_and_6_and_8 = (refl, refl)
 
@@ -3311,8 +3386,8 @@ before_queue_of_2_and_4_and_7 = record {
 }
 
 queue_of_2_and_4_and_7 : Steps (at 1407 (Desk 1) ask.Queue) before_queue_of_2_and_4_and_7
-    (Ok (answer.Queue ((entry 2 1245 2147483647 (Some A2)) ∷ (entry 4 1005 2 (Some A1))
-    ∷ (entry 7 0 1 None) ∷ []))) before_queue_of_2_and_4_and_7
+    (Ok (answer.Queue ((entry rank.Unacknowledged 1245 2147483647 (Some A2)) ∷ (entry rank.OutOfTurn 1005 2 (Some A1))
+    ∷ (entry rank.Uncovered 0 1 None) ∷ []))) before_queue_of_2_and_4_and_7
 unfolding machine
 queue_of_2_and_4_and_7 = (refl, refl)
 
@@ -3352,8 +3427,9 @@ before_queue_of_2_and_4_and_7_and_8 = record {
 
 queue_of_2_and_4_and_7_and_8 : Steps
     (at 2511 (Desk 1) ask.Queue) before_queue_of_2_and_4_and_7_and_8
-    (Ok (answer.Queue ((entry 2 2449 2 (Some B1)) ∷ (entry 4 1251 1 (Some B1))
-    ∷ (entry 4 2148 6 (Some B1)) ∷ (entry 7 0 1 None) ∷ (entry 8 1717 2 (Some A3)) ∷ [])))
+    (Ok (answer.Queue ((entry rank.Unacknowledged 2449 2 (Some B1)) ∷ (entry rank.OutOfTurn 1251 1 (Some B1))
+    ∷ (entry rank.OutOfTurn 2148 6 (Some B1)) ∷ (entry rank.Uncovered 0 1 None)
+    ∷ (entry rank.Unanswered 1717 2 (Some A3)) ∷ [])))
     before_queue_of_2_and_4_and_7_and_8
 unfolding machine
 queue_of_2_and_4_and_7_and_8 = (refl, refl)
@@ -3381,7 +3457,7 @@ before_queue_of_2_and_6 = record {
 }
 
 queue_of_2_and_6 : Steps (at 2000 (Desk 1) ask.Queue) before_queue_of_2_and_6
-    (Ok (answer.Queue ((entry 2 1462 4 (Some A3)) ∷ (entry 6 2000 0 (Some A3)) ∷ [])))
+    (Ok (answer.Queue ((entry rank.Unacknowledged 1462 4 (Some A3)) ∷ (entry rank.ShiftOver 2000 0 (Some A3)) ∷ [])))
     before_queue_of_2_and_6
 unfolding machine
 queue_of_2_and_6 = (refl, refl)
@@ -3413,8 +3489,9 @@ before_queue_of_2_and_6_and_7_and_8 = record {
 
 queue_of_2_and_6_and_7_and_8 : Steps
     (at 3018 (Desk 7) ask.Queue) before_queue_of_2_and_6_and_7_and_8
-    (Ok (answer.Queue ((entry 2 1632 4 (Some B1)) ∷ (entry 6 2000 0 (Some B1)) ∷ (entry 7 0 2 None)
-    ∷ (entry 8 2296 1 (Some A1)) ∷ []))) before_queue_of_2_and_6_and_7_and_8
+    (Ok (answer.Queue ((entry rank.Unacknowledged 1632 4 (Some B1)) ∷ (entry rank.ShiftOver 2000 0 (Some B1))
+    ∷ (entry rank.Uncovered 0 2 None)
+    ∷ (entry rank.Unanswered 2296 1 (Some A1)) ∷ []))) before_queue_of_2_and_6_and_7_and_8
 unfolding machine
 queue_of_2_and_6_and_7_and_8 = (refl, refl)
 
@@ -3448,8 +3525,8 @@ before_queue_of_2_and_6_and_8 = record {
 }
 
 queue_of_2_and_6_and_8 : Steps (at 2562 (Desk 2) ask.Queue) before_queue_of_2_and_6_and_8
-    (Ok (answer.Queue ((entry 2 1999 1 (Some A2)) ∷ (entry 6 2000 0 (Some A2))
-    ∷ (entry 8 1703 1 (Some A3)) ∷ []))) before_queue_of_2_and_6_and_8
+    (Ok (answer.Queue ((entry rank.Unacknowledged 1999 1 (Some A2)) ∷ (entry rank.ShiftOver 2000 0 (Some A2))
+    ∷ (entry rank.Unanswered 1703 1 (Some A3)) ∷ []))) before_queue_of_2_and_6_and_8
 unfolding machine
 queue_of_2_and_6_and_8 = (refl, refl)
 
@@ -3473,7 +3550,7 @@ before_queue_of_2_and_7 = record {
 }
 
 queue_of_2_and_7 : Steps (at 1693 (Desk 7) ask.Queue) before_queue_of_2_and_7
-    (Ok (answer.Queue ((entry 2 1632 4 (Some B1)) ∷ (entry 7 0 2 None) ∷ [])))
+    (Ok (answer.Queue ((entry rank.Unacknowledged 1632 4 (Some B1)) ∷ (entry rank.Uncovered 0 2 None) ∷ [])))
     before_queue_of_2_and_7
 unfolding machine
 queue_of_2_and_7 = (refl, refl)
@@ -3501,6 +3578,6 @@ before_queue_of_3 = record {
 }
 
 queue_of_3 : Steps (at 2201 (Desk 1) ask.Queue) before_queue_of_3
-    (Ok (answer.Queue ((entry 3 1301 1 (Some B1)) ∷ []))) before_queue_of_3
+    (Ok (answer.Queue ((entry rank.LateForScene 1301 1 (Some B1)) ∷ []))) before_queue_of_3
 unfolding machine
 queue_of_3 = (refl, refl)

@@ -20,6 +20,7 @@ use Rattle.room_samples.specs.SampledRooms.{A1, A2, A3, B1, B2, overlapping_divi
 use Rattle.room_samples.specs.SampledRooms.{two_divisions}
 use Rattle.room_samples.specs.SampledSteps.{Steps}
 use Rattle.room_model.specs.StepWords.{at, entry, needs}
+use Rattle.room_types.specs.declared.ranks.Rank.TheVariants as rank
 
 abbrev before_queue_of_3_and_4 : Room
 before_queue_of_3_and_4 = record {
@@ -53,8 +54,8 @@ before_queue_of_3_and_4 = record {
 }
 
 queue_of_3_and_4 : Steps (at 2264 (Desk 2) ask.Queue) before_queue_of_3_and_4
-    (Ok (answer.Queue ((entry 3 1783 4 (Some A1)) ∷ (entry 4 1572 2 (Some A1))
-    ∷ (entry 4 1602 4 (Some A1)) ∷ (entry 4 3505 2 (Some A2)) ∷ []))) before_queue_of_3_and_4
+    (Ok (answer.Queue ((entry rank.LateForScene 1783 4 (Some A1)) ∷ (entry rank.OutOfTurn 1572 2 (Some A1))
+    ∷ (entry rank.OutOfTurn 1602 4 (Some A1)) ∷ (entry rank.OutOfTurn 3505 2 (Some A2)) ∷ []))) before_queue_of_3_and_4
 unfolding machine
 queue_of_3_and_4 = (refl, refl)
 
@@ -97,8 +98,9 @@ before_queue_of_3_and_4_2 = record {
 }
 
 queue_of_3_and_4_2 : Steps (at 4060 (Desk 1) ask.Queue) before_queue_of_3_and_4_2
-    (Ok (answer.Queue ((entry 3 2847 1 (Some A3)) ∷ (entry 4 1644 2 (Some A3))
-    ∷ (entry 4 2546 4 (Some A3)) ∷ (entry 4 3188 5 (Some A3)) ∷ []))) before_queue_of_3_and_4_2
+    (Ok (answer.Queue ((entry rank.LateForScene 2847 1 (Some A3)) ∷ (entry rank.OutOfTurn 1644 2 (Some A3))
+    ∷ (entry rank.OutOfTurn 2546 4 (Some A3)) ∷ (entry rank.OutOfTurn 3188 5 (Some A3)) ∷ [])))
+    before_queue_of_3_and_4_2
 unfolding machine
 queue_of_3_and_4_2 = (refl, refl)
 
@@ -132,9 +134,11 @@ before_queue_of_3_and_4_and_5_and_6 = record {
 
 queue_of_3_and_4_and_5_and_6 : Steps
     (at 3600 (Desk 1) ask.Queue) before_queue_of_3_and_4_and_5_and_6
-    (Ok (answer.Queue ((entry 3 1363 1 (Some B2)) ∷ (entry 4 1544 1 (Some A2))
-    ∷ (entry 4 1544 1 (Some B2)) ∷ (entry 4 2156 2 (Some A2)) ∷ (entry 4 3412 4 (Some B2))
-    ∷ (entry 5 2464 2 (Some A3)) ∷ (entry 6 3425 0 (Some A1)) ∷ (entry 6 3599 0 (Some B1))
+    (Ok (answer.Queue ((entry rank.LateForScene 1363 1 (Some B2)) ∷ (entry rank.OutOfTurn 1544 1 (Some A2))
+    ∷ (entry rank.OutOfTurn 1544 1 (Some B2)) ∷ (entry rank.OutOfTurn 2156 2 (Some A2))
+    ∷ (entry rank.OutOfTurn 3412 4 (Some B2))
+    ∷ (entry rank.Overdue 2464 2 (Some A3)) ∷ (entry rank.ShiftOver 3425 0 (Some A1))
+    ∷ (entry rank.ShiftOver 3599 0 (Some B1))
     ∷ []))) before_queue_of_3_and_4_and_5_and_6
 unfolding machine
 queue_of_3_and_4_and_5_and_6 = (refl, refl)
@@ -166,9 +170,10 @@ before_queue_of_3_and_4_and_5_and_7 = record {
 
 queue_of_3_and_4_and_5_and_7 : Steps
     (at 4077 (Desk 2) ask.Queue) before_queue_of_3_and_4_and_5_and_7
-    (Ok (answer.Queue ((entry 3 1187 1 (Some A1)) ∷ (entry 4 1192 1 (Some A2))
-    ∷ (entry 4 1439 1 (Some A1)) ∷ (entry 4 4001 2 (Some A2)) ∷ (entry 5 1373 1 (Some A2))
-    ∷ (entry 7 0 1 None) ∷ (entry 7 0 2 None) ∷ []))) before_queue_of_3_and_4_and_5_and_7
+    (Ok (answer.Queue ((entry rank.LateForScene 1187 1 (Some A1)) ∷ (entry rank.OutOfTurn 1192 1 (Some A2))
+    ∷ (entry rank.OutOfTurn 1439 1 (Some A1)) ∷ (entry rank.OutOfTurn 4001 2 (Some A2))
+    ∷ (entry rank.Overdue 1373 1 (Some A2))
+    ∷ (entry rank.Uncovered 0 1 None) ∷ (entry rank.Uncovered 0 2 None) ∷ []))) before_queue_of_3_and_4_and_5_and_7
 unfolding machine
 queue_of_3_and_4_and_5_and_7 = (refl, refl)
 
@@ -197,8 +202,8 @@ before_queue_of_3_and_4_and_6 = record {
 }
 
 queue_of_3_and_4_and_6 : Steps (at 2767 (Desk 1) ask.Queue) before_queue_of_3_and_4_and_6
-    (Ok (answer.Queue ((entry 3 1451 1 (Some A3)) ∷ (entry 4 1522 1 (Some B1))
-    ∷ (entry 6 1151 0 (Some A1)) ∷ (entry 6 2000 0 (Some B1)) ∷ [])))
+    (Ok (answer.Queue ((entry rank.LateForScene 1451 1 (Some A3)) ∷ (entry rank.OutOfTurn 1522 1 (Some B1))
+    ∷ (entry rank.ShiftOver 1151 0 (Some A1)) ∷ (entry rank.ShiftOver 2000 0 (Some B1)) ∷ [])))
     before_queue_of_3_and_4_and_6
 unfolding machine
 queue_of_3_and_4_and_6 = (refl, refl)
@@ -239,9 +244,10 @@ before_queue_of_3_and_4_and_6_and_7 = record {
 
 queue_of_3_and_4_and_6_and_7 : Steps
     (at 2001 (Desk 1) ask.Queue) before_queue_of_3_and_4_and_6_and_7
-    (Ok (answer.Queue ((entry 3 1041 1 (Some A2)) ∷ (entry 4 2297 1 (Some A2))
-    ∷ (entry 4 2618 3 (Some A1)) ∷ (entry 4 3053 5 (Some A1)) ∷ (entry 4 3173 6 (Some A1))
-    ∷ (entry 6 2000 0 (Some A2)) ∷ (entry 7 0 1 None) ∷ [])))
+    (Ok (answer.Queue ((entry rank.LateForScene 1041 1 (Some A2)) ∷ (entry rank.OutOfTurn 2297 1 (Some A2))
+    ∷ (entry rank.OutOfTurn 2618 3 (Some A1)) ∷ (entry rank.OutOfTurn 3053 5 (Some A1))
+    ∷ (entry rank.OutOfTurn 3173 6 (Some A1))
+    ∷ (entry rank.ShiftOver 2000 0 (Some A2)) ∷ (entry rank.Uncovered 0 1 None) ∷ [])))
     before_queue_of_3_and_4_and_6_and_7
 unfolding machine
 queue_of_3_and_4_and_6_and_7 = (refl, refl)
@@ -287,10 +293,12 @@ before_queue_of_3_and_4_and_6_and_8 = record {
 
 queue_of_3_and_4_and_6_and_8 : Steps
     (at 5631 (Desk 1) ask.Queue) before_queue_of_3_and_4_and_6_and_8
-    (Ok (answer.Queue ((entry 3 1211 1 (Some A2)) ∷ (entry 4 1036 2 (Some A3))
-    ∷ (entry 4 1734 1 (Some B1)) ∷ (entry 4 4516 2 (Some B1)) ∷ (entry 4 5601 3 (Some B1))
-    ∷ (entry 6 2865 0 (Some A1)) ∷ (entry 6 5000 0 (Some A2)) ∷ (entry 6 5000 0 (Some A3))
-    ∷ (entry 8 2245 2 (Some B1)) ∷ []))) before_queue_of_3_and_4_and_6_and_8
+    (Ok (answer.Queue ((entry rank.LateForScene 1211 1 (Some A2)) ∷ (entry rank.OutOfTurn 1036 2 (Some A3))
+    ∷ (entry rank.OutOfTurn 1734 1 (Some B1)) ∷ (entry rank.OutOfTurn 4516 2 (Some B1))
+    ∷ (entry rank.OutOfTurn 5601 3 (Some B1))
+    ∷ (entry rank.ShiftOver 2865 0 (Some A1)) ∷ (entry rank.ShiftOver 5000 0 (Some A2))
+    ∷ (entry rank.ShiftOver 5000 0 (Some A3))
+    ∷ (entry rank.Unanswered 2245 2 (Some B1)) ∷ []))) before_queue_of_3_and_4_and_6_and_8
 unfolding machine
 queue_of_3_and_4_and_6_and_8 = (refl, refl)
 
@@ -324,8 +332,8 @@ before_queue_of_3_and_4_and_7 = record {
 }
 
 queue_of_3_and_4_and_7 : Steps (at 3997 (Desk 1) ask.Queue) before_queue_of_3_and_4_and_7
-    (Ok (answer.Queue ((entry 3 1491 5 (Some A3)) ∷ (entry 4 1491 2 (Some A3))
-    ∷ (entry 4 3786 3 (Some A3)) ∷ (entry 7 0 2 None) ∷ []))) before_queue_of_3_and_4_and_7
+    (Ok (answer.Queue ((entry rank.LateForScene 1491 5 (Some A3)) ∷ (entry rank.OutOfTurn 1491 2 (Some A3))
+    ∷ (entry rank.OutOfTurn 3786 3 (Some A3)) ∷ (entry rank.Uncovered 0 2 None) ∷ []))) before_queue_of_3_and_4_and_7
 unfolding machine
 queue_of_3_and_4_and_7 = (refl, refl)
 
@@ -351,7 +359,7 @@ before_queue_of_3_and_7 = record {
 }
 
 queue_of_3_and_7 : Steps (at 3081 (Desk 2) ask.Queue) before_queue_of_3_and_7
-    (Ok (answer.Queue ((entry 3 2177 2147483647 (Some A1)) ∷ (entry 7 0 1 None) ∷ [])))
+    (Ok (answer.Queue ((entry rank.LateForScene 2177 2147483647 (Some A1)) ∷ (entry rank.Uncovered 0 1 None) ∷ [])))
     before_queue_of_3_and_7
 unfolding machine
 queue_of_3_and_7 = (refl, refl)
@@ -382,7 +390,7 @@ before_queue_of_3_and_8 = record {
 }
 
 queue_of_3_and_8 : Steps (at 1676 (Desk 1) ask.Queue) before_queue_of_3_and_8
-    (Ok (answer.Queue ((entry 3 1005 1 (Some A1)) ∷ (entry 8 1010 2 (Some B2)) ∷ [])))
+    (Ok (answer.Queue ((entry rank.LateForScene 1005 1 (Some A1)) ∷ (entry rank.Unanswered 1010 2 (Some B2)) ∷ [])))
     before_queue_of_3_and_8
 unfolding machine
 queue_of_3_and_8 = (refl, refl)
@@ -406,7 +414,7 @@ before_queue_of_4 = record {
 }
 
 queue_of_4 : Steps (at 40099 (Desk 1) ask.Queue) before_queue_of_4
-    (Ok (answer.Queue ((entry 4 40099 1 (Some A1)) ∷ []))) before_queue_of_4
+    (Ok (answer.Queue ((entry rank.OutOfTurn 40099 1 (Some A1)) ∷ []))) before_queue_of_4
 unfolding machine
 queue_of_4 = (refl, refl)
 
@@ -430,7 +438,7 @@ before_queue_of_4_2 = record {
 }
 
 queue_of_4_2 : Steps (at 1450 (Desk 7) ask.Queue) before_queue_of_4_2
-    (Ok (answer.Queue ((entry 4 1361 2 (Some B1)) ∷ []))) before_queue_of_4_2
+    (Ok (answer.Queue ((entry rank.OutOfTurn 1361 2 (Some B1)) ∷ []))) before_queue_of_4_2
 unfolding machine
 queue_of_4_2 = (refl, refl)
 
@@ -457,7 +465,7 @@ before_queue_of_4_3 = record {
 }
 
 queue_of_4_3 : Steps (at 1672 (Desk 1) ask.Queue) before_queue_of_4_3
-    (Ok (answer.Queue ((entry 4 2093 1 (Some A3)) ∷ []))) before_queue_of_4_3
+    (Ok (answer.Queue ((entry rank.OutOfTurn 2093 1 (Some A3)) ∷ []))) before_queue_of_4_3
 unfolding machine
 queue_of_4_3 = (refl, refl)
 
@@ -486,8 +494,8 @@ before_queue_of_4_4 = record {
 }
 
 queue_of_4_4 : Steps (at 2578 (Desk 1) ask.Queue) before_queue_of_4_4
-    (Ok (answer.Queue ((entry 4 1547 1 (Some A3)) ∷ (entry 4 1719 3 (Some A3))
-    ∷ (entry 4 1738 2 (Some A1)) ∷ (entry 4 1758 1 (Some A2)) ∷ []))) before_queue_of_4_4
+    (Ok (answer.Queue ((entry rank.OutOfTurn 1547 1 (Some A3)) ∷ (entry rank.OutOfTurn 1719 3 (Some A3))
+    ∷ (entry rank.OutOfTurn 1738 2 (Some A1)) ∷ (entry rank.OutOfTurn 1758 1 (Some A2)) ∷ []))) before_queue_of_4_4
 unfolding machine
 queue_of_4_4 = (refl, refl)
 
@@ -518,8 +526,9 @@ before_queue_of_4_5 = record {
 }
 
 queue_of_4_5 : Steps (at 4999 (Desk 2) ask.Queue) before_queue_of_4_5
-    (Ok (answer.Queue ((entry 4 1727 1 (Some A2)) ∷ (entry 4 1762 2 (Some A3))
-    ∷ (entry 4 2439 5 (Some A3)) ∷ (entry 4 2500 1 (Some B1)) ∷ (entry 4 2981 1 (Some A1))
+    (Ok (answer.Queue ((entry rank.OutOfTurn 1727 1 (Some A2)) ∷ (entry rank.OutOfTurn 1762 2 (Some A3))
+    ∷ (entry rank.OutOfTurn 2439 5 (Some A3)) ∷ (entry rank.OutOfTurn 2500 1 (Some B1))
+    ∷ (entry rank.OutOfTurn 2981 1 (Some A1))
     ∷ []))) before_queue_of_4_5
 unfolding machine
 queue_of_4_5 = (refl, refl)
@@ -555,8 +564,8 @@ before_queue_of_4_6 = record {
 }
 
 queue_of_4_6 : Steps (at 4049 (Desk 1) ask.Queue) before_queue_of_4_6
-    (Ok (answer.Queue ((entry 4 4003 2 (Some A1)) ∷ (entry 4 4008 1 (Some A3))
-    ∷ (entry 4 4069 3 (Some A1)) ∷ []))) before_queue_of_4_6
+    (Ok (answer.Queue ((entry rank.OutOfTurn 4003 2 (Some A1)) ∷ (entry rank.OutOfTurn 4008 1 (Some A3))
+    ∷ (entry rank.OutOfTurn 4069 3 (Some A1)) ∷ []))) before_queue_of_4_6
 unfolding machine
 queue_of_4_6 = (refl, refl)
 
@@ -591,8 +600,9 @@ before_queue_of_4_7 = record {
 }
 
 queue_of_4_7 : Steps (at 2203 (Desk 1) ask.Queue) before_queue_of_4_7
-    (Ok (answer.Queue ((entry 4 1544 1 (Some A2)) ∷ (entry 4 1544 1 (Some B2))
-    ∷ (entry 4 2156 2 (Some A2)) ∷ (entry 4 3412 4 (Some B2)) ∷ (entry 4 4275 1 (Some B1))
+    (Ok (answer.Queue ((entry rank.OutOfTurn 1544 1 (Some A2)) ∷ (entry rank.OutOfTurn 1544 1 (Some B2))
+    ∷ (entry rank.OutOfTurn 2156 2 (Some A2)) ∷ (entry rank.OutOfTurn 3412 4 (Some B2))
+    ∷ (entry rank.OutOfTurn 4275 1 (Some B1))
     ∷ []))) before_queue_of_4_7
 unfolding machine
 queue_of_4_7 = (refl, refl)
@@ -618,7 +628,7 @@ before_queue_of_4_and_5 = record {
 }
 
 queue_of_4_and_5 : Steps (at 2403 (Desk 1) ask.Queue) before_queue_of_4_and_5
-    (Ok (answer.Queue ((entry 4 1481 2 (Some A2)) ∷ (entry 5 1943 2 (Some A3)) ∷ [])))
+    (Ok (answer.Queue ((entry rank.OutOfTurn 1481 2 (Some A2)) ∷ (entry rank.Overdue 1943 2 (Some A3)) ∷ [])))
     before_queue_of_4_and_5
 unfolding machine
 queue_of_4_and_5 = (refl, refl)
@@ -648,8 +658,8 @@ before_queue_of_4_and_5_and_6 = record {
 }
 
 queue_of_4_and_5_and_6 : Steps (at 2000 (Desk 2) ask.Queue) before_queue_of_4_and_5_and_6
-    (Ok (answer.Queue ((entry 4 1301 1 (Some A2)) ∷ (entry 5 1999 1 (Some A2))
-    ∷ (entry 6 2000 0 (Some A2)) ∷ []))) before_queue_of_4_and_5_and_6
+    (Ok (answer.Queue ((entry rank.OutOfTurn 1301 1 (Some A2)) ∷ (entry rank.Overdue 1999 1 (Some A2))
+    ∷ (entry rank.ShiftOver 2000 0 (Some A2)) ∷ []))) before_queue_of_4_and_5_and_6
 unfolding machine
 queue_of_4_and_5_and_6 = (refl, refl)
 
@@ -674,8 +684,9 @@ before_queue_of_4_and_5_and_6_and_7 = record {
 
 queue_of_4_and_5_and_6_and_7 : Steps
     (at 2655 (Desk 1) ask.Queue) before_queue_of_4_and_5_and_6_and_7
-    (Ok (answer.Queue ((entry 4 1962 1 (Some A3)) ∷ (entry 5 1581 2 (Some B1))
-    ∷ (entry 6 2000 0 (Some A1)) ∷ (entry 6 2000 0 (Some A3)) ∷ (entry 7 0 2 None) ∷ [])))
+    (Ok (answer.Queue ((entry rank.OutOfTurn 1962 1 (Some A3)) ∷ (entry rank.Overdue 1581 2 (Some B1))
+    ∷ (entry rank.ShiftOver 2000 0 (Some A1)) ∷ (entry rank.ShiftOver 2000 0 (Some A3))
+    ∷ (entry rank.Uncovered 0 2 None) ∷ [])))
     before_queue_of_4_and_5_and_6_and_7
 unfolding machine
 queue_of_4_and_5_and_6_and_7 = (refl, refl)
@@ -707,9 +718,9 @@ before_queue_of_4_and_5_and_6_and_7_and_8 = record {
 
 queue_of_4_and_5_and_6_and_7_and_8 : Steps
     (at 1999 (Desk 1) ask.Queue) before_queue_of_4_and_5_and_6_and_7_and_8
-    (Ok (answer.Queue ((entry 4 1001 1 (Some B1)) ∷ (entry 4 1101 1 (Some B2))
-    ∷ (entry 5 1396 2 (Some B2)) ∷ (entry 6 962 0 (Some A2)) ∷ (entry 7 0 2 None)
-    ∷ (entry 8 966 2 (Some A1)) ∷ []))) before_queue_of_4_and_5_and_6_and_7_and_8
+    (Ok (answer.Queue ((entry rank.OutOfTurn 1001 1 (Some B1)) ∷ (entry rank.OutOfTurn 1101 1 (Some B2))
+    ∷ (entry rank.Overdue 1396 2 (Some B2)) ∷ (entry rank.ShiftOver 962 0 (Some A2)) ∷ (entry rank.Uncovered 0 2 None)
+    ∷ (entry rank.Unanswered 966 2 (Some A1)) ∷ []))) before_queue_of_4_and_5_and_6_and_7_and_8
 unfolding machine
 queue_of_4_and_5_and_6_and_7_and_8 = (refl, refl)
 
@@ -735,8 +746,9 @@ before_queue_of_4_and_5_and_6_and_8 = record {
 
 queue_of_4_and_5_and_6_and_8 : Steps
     (at 40300 (Desk 2) ask.Queue) before_queue_of_4_and_5_and_6_and_8
-    (Ok (answer.Queue ((entry 4 2265 1 (Some A2)) ∷ (entry 4 2270 1 (Some A1))
-    ∷ (entry 5 1903 1 (Some A1)) ∷ (entry 6 2000 0 (Some A2)) ∷ (entry 8 39999 1 (Some A3))
+    (Ok (answer.Queue ((entry rank.OutOfTurn 2265 1 (Some A2)) ∷ (entry rank.OutOfTurn 2270 1 (Some A1))
+    ∷ (entry rank.Overdue 1903 1 (Some A1)) ∷ (entry rank.ShiftOver 2000 0 (Some A2))
+    ∷ (entry rank.Unanswered 39999 1 (Some A3))
     ∷ []))) before_queue_of_4_and_5_and_6_and_8
 unfolding machine
 queue_of_4_and_5_and_6_and_8 = (refl, refl)
@@ -763,7 +775,8 @@ before_queue_of_4_and_5_and_7 = record {
 }
 
 queue_of_4_and_5_and_7 : Steps (at 3151 (Desk 1) ask.Queue) before_queue_of_4_and_5_and_7
-    (Ok (answer.Queue ((entry 4 1451 1 (Some A1)) ∷ (entry 5 2331 2 (Some B1)) ∷ (entry 7 0 2 None)
+    (Ok (answer.Queue
+    ((entry rank.OutOfTurn 1451 1 (Some A1)) ∷ (entry rank.Overdue 2331 2 (Some B1)) ∷ (entry rank.Uncovered 0 2 None)
     ∷ []))) before_queue_of_4_and_5_and_7
 unfolding machine
 queue_of_4_and_5_and_7 = (refl, refl)
@@ -799,9 +812,9 @@ before_queue_of_4_and_5_and_7_and_8 = record {
 
 queue_of_4_and_5_and_7_and_8 : Steps
     (at 5319 (Desk 1) ask.Queue) before_queue_of_4_and_5_and_7_and_8
-    (Ok (answer.Queue ((entry 4 1066 1 (Some A2)) ∷ (entry 4 4471 3 (Some A2))
-    ∷ (entry 5 1952 2 (Some A2)) ∷ (entry 7 0 2 None) ∷ (entry 8 2033 2 (Some A1))
-    ∷ (entry 8 2043 2 (Some A3)) ∷ []))) before_queue_of_4_and_5_and_7_and_8
+    (Ok (answer.Queue ((entry rank.OutOfTurn 1066 1 (Some A2)) ∷ (entry rank.OutOfTurn 4471 3 (Some A2))
+    ∷ (entry rank.Overdue 1952 2 (Some A2)) ∷ (entry rank.Uncovered 0 2 None) ∷ (entry rank.Unanswered 2033 2 (Some A1))
+    ∷ (entry rank.Unanswered 2043 2 (Some A3)) ∷ []))) before_queue_of_4_and_5_and_7_and_8
 unfolding machine
 queue_of_4_and_5_and_7_and_8 = (refl, refl)
 
@@ -828,8 +841,8 @@ before_queue_of_4_and_5_and_8 = record {
 }
 
 queue_of_4_and_5_and_8 : Steps (at 2324 (Desk 2) ask.Queue) before_queue_of_4_and_5_and_8
-    (Ok (answer.Queue ((entry 4 1361 1 (Some B2)) ∷ (entry 5 2000 1 (Some A3))
-    ∷ (entry 8 1381 1 (Some A1)) ∷ []))) before_queue_of_4_and_5_and_8
+    (Ok (answer.Queue ((entry rank.OutOfTurn 1361 1 (Some B2)) ∷ (entry rank.Overdue 2000 1 (Some A3))
+    ∷ (entry rank.Unanswered 1381 1 (Some A1)) ∷ []))) before_queue_of_4_and_5_and_8
 unfolding machine
 queue_of_4_and_5_and_8 = (refl, refl)
 
@@ -851,7 +864,7 @@ before_queue_of_4_and_6 = record {
 }
 
 queue_of_4_and_6 : Steps (at 2000 (Desk 1) ask.Queue) before_queue_of_4_and_6
-    (Ok (answer.Queue ((entry 4 1005 1 (Some A1)) ∷ (entry 6 2000 0 (Some A2)) ∷ [])))
+    (Ok (answer.Queue ((entry rank.OutOfTurn 1005 1 (Some A1)) ∷ (entry rank.ShiftOver 2000 0 (Some A2)) ∷ [])))
     before_queue_of_4_and_6
 unfolding machine
 queue_of_4_and_6 = (refl, refl)
@@ -879,9 +892,10 @@ before_queue_of_4_and_6_and_7 = record {
 }
 
 queue_of_4_and_6_and_7 : Steps (at 39999 (Desk 2) ask.Queue) before_queue_of_4_and_6_and_7
-    (Ok (answer.Queue ((entry 4 3350 4 (Some A1)) ∷ (entry 4 3390 2 (Some A2))
-    ∷ (entry 4 3832 3 (Some A2)) ∷ (entry 4 3998 5 (Some A2)) ∷ (entry 6 5000 0 (Some A2))
-    ∷ (entry 7 0 1 None) ∷ (entry 7 0 2 None) ∷ []))) before_queue_of_4_and_6_and_7
+    (Ok (answer.Queue ((entry rank.OutOfTurn 3350 4 (Some A1)) ∷ (entry rank.OutOfTurn 3390 2 (Some A2))
+    ∷ (entry rank.OutOfTurn 3832 3 (Some A2)) ∷ (entry rank.OutOfTurn 3998 5 (Some A2))
+    ∷ (entry rank.ShiftOver 5000 0 (Some A2))
+    ∷ (entry rank.Uncovered 0 1 None) ∷ (entry rank.Uncovered 0 2 None) ∷ []))) before_queue_of_4_and_6_and_7
 unfolding machine
 queue_of_4_and_6_and_7 = (refl, refl)
 
@@ -909,9 +923,10 @@ before_queue_of_4_and_6_and_7_and_8 = record {
 
 queue_of_4_and_6_and_7_and_8 : Steps
     (at 39999 (Desk 1) ask.Queue) before_queue_of_4_and_6_and_7_and_8
-    (Ok (answer.Queue ((entry 4 1331 2 (Some A3)) ∷ (entry 4 1934 2 (Some A1))
-    ∷ (entry 4 2125 1 (Some A1)) ∷ (entry 6 5000 0 (Some A1)) ∷ (entry 7 0 1 None)
-    ∷ (entry 8 1843 2 (Some A2)) ∷ (entry 8 1944 2 (Some A1)) ∷ [])))
+    (Ok (answer.Queue ((entry rank.OutOfTurn 1331 2 (Some A3)) ∷ (entry rank.OutOfTurn 1934 2 (Some A1))
+    ∷ (entry rank.OutOfTurn 2125 1 (Some A1)) ∷ (entry rank.ShiftOver 5000 0 (Some A1))
+    ∷ (entry rank.Uncovered 0 1 None)
+    ∷ (entry rank.Unanswered 1843 2 (Some A2)) ∷ (entry rank.Unanswered 1944 2 (Some A1)) ∷ [])))
     before_queue_of_4_and_6_and_7_and_8
 unfolding machine
 queue_of_4_and_6_and_7_and_8 = (refl, refl)
@@ -935,8 +950,8 @@ before_queue_of_4_and_6_and_8 = record {
 }
 
 queue_of_4_and_6_and_8 : Steps (at 5000 (Desk 7) ask.Queue) before_queue_of_4_and_6_and_8
-    (Ok (answer.Queue ((entry 4 1302 1 (Some A3)) ∷ (entry 6 2000 0 (Some A3))
-    ∷ (entry 6 5000 0 (Some A1)) ∷ (entry 8 2000 1 (Some A2)) ∷ [])))
+    (Ok (answer.Queue ((entry rank.OutOfTurn 1302 1 (Some A3)) ∷ (entry rank.ShiftOver 2000 0 (Some A3))
+    ∷ (entry rank.ShiftOver 5000 0 (Some A1)) ∷ (entry rank.Unanswered 2000 1 (Some A2)) ∷ [])))
     before_queue_of_4_and_6_and_8
 unfolding machine
 queue_of_4_and_6_and_8 = (refl, refl)
@@ -968,8 +983,9 @@ before_queue_of_4_and_6_and_8_2 = record {
 }
 
 queue_of_4_and_6_and_8_2 : Steps (at 40001 (Desk 2) ask.Queue) before_queue_of_4_and_6_and_8_2
-    (Ok (answer.Queue ((entry 4 1030 1 (Some A3)) ∷ (entry 4 1860 1 (Some B1))
-    ∷ (entry 6 5000 0 (Some B1)) ∷ (entry 6 40000 0 (Some A3)) ∷ (entry 8 1981 1 (Some B1))
+    (Ok (answer.Queue ((entry rank.OutOfTurn 1030 1 (Some A3)) ∷ (entry rank.OutOfTurn 1860 1 (Some B1))
+    ∷ (entry rank.ShiftOver 5000 0 (Some B1)) ∷ (entry rank.ShiftOver 40000 0 (Some A3))
+    ∷ (entry rank.Unanswered 1981 1 (Some B1))
     ∷ []))) before_queue_of_4_and_6_and_8_2
 unfolding machine
 queue_of_4_and_6_and_8_2 = (refl, refl)
@@ -999,7 +1015,7 @@ before_queue_of_4_and_7 = record {
 }
 
 queue_of_4_and_7 : Steps (at 2301 (Desk 1) ask.Queue) before_queue_of_4_and_7
-    (Ok (answer.Queue ((entry 4 2523 1 (Some A2)) ∷ (entry 7 0 2 None) ∷ [])))
+    (Ok (answer.Queue ((entry rank.OutOfTurn 2523 1 (Some A2)) ∷ (entry rank.Uncovered 0 2 None) ∷ [])))
     before_queue_of_4_and_7
 unfolding machine
 queue_of_4_and_7 = (refl, refl)
@@ -1037,9 +1053,10 @@ before_queue_of_4_and_7_2 = record {
 }
 
 queue_of_4_and_7_2 : Steps (at 3336 (Desk 2) ask.Queue) before_queue_of_4_and_7_2
-    (Ok (answer.Queue ((entry 4 1001 1 (Some B1)) ∷ (entry 4 1121 2 (Some A1))
-    ∷ (entry 4 1151 3 (Some A1)) ∷ (entry 4 1332 2 (Some B1)) ∷ (entry 4 2852 4 (Some B1))
-    ∷ (entry 7 0 1 None) ∷ []))) before_queue_of_4_and_7_2
+    (Ok (answer.Queue ((entry rank.OutOfTurn 1001 1 (Some B1)) ∷ (entry rank.OutOfTurn 1121 2 (Some A1))
+    ∷ (entry rank.OutOfTurn 1151 3 (Some A1)) ∷ (entry rank.OutOfTurn 1332 2 (Some B1))
+    ∷ (entry rank.OutOfTurn 2852 4 (Some B1))
+    ∷ (entry rank.Uncovered 0 1 None) ∷ []))) before_queue_of_4_and_7_2
 unfolding machine
 queue_of_4_and_7_2 = (refl, refl)
 
@@ -1064,8 +1081,9 @@ before_queue_of_4_and_7_and_8 = record {
 }
 
 queue_of_4_and_7_and_8 : Steps (at 1999 (Desk 1) ask.Queue) before_queue_of_4_and_7_and_8
-    (Ok (answer.Queue ((entry 4 1002 2 (Some A1)) ∷ (entry 4 1154 4 (Some A1))
-    ∷ (entry 4 1184 1 (Some A2)) ∷ (entry 7 0 2 None) ∷ (entry 8 1093 2 (Some A1)) ∷ [])))
+    (Ok (answer.Queue ((entry rank.OutOfTurn 1002 2 (Some A1)) ∷ (entry rank.OutOfTurn 1154 4 (Some A1))
+    ∷ (entry rank.OutOfTurn 1184 1 (Some A2)) ∷ (entry rank.Uncovered 0 2 None)
+    ∷ (entry rank.Unanswered 1093 2 (Some A1)) ∷ [])))
     before_queue_of_4_and_7_and_8
 unfolding machine
 queue_of_4_and_7_and_8 = (refl, refl)
@@ -1091,7 +1109,7 @@ before_queue_of_4_and_8 = record {
 }
 
 queue_of_4_and_8 : Steps (at 1766 (Desk 1) ask.Queue) before_queue_of_4_and_8
-    (Ok (answer.Queue ((entry 4 1928 1 (Some A1)) ∷ (entry 8 1446 2 (Some A2)) ∷ [])))
+    (Ok (answer.Queue ((entry rank.OutOfTurn 1928 1 (Some A1)) ∷ (entry rank.Unanswered 1446 2 (Some A2)) ∷ [])))
     before_queue_of_4_and_8
 unfolding machine
 queue_of_4_and_8 = (refl, refl)
@@ -1115,7 +1133,7 @@ before_queue_of_5 = record {
 }
 
 queue_of_5 : Steps (at 1461 (Desk 1) ask.Queue) before_queue_of_5
-    (Ok (answer.Queue ((entry 5 980 2 (Some A2)) ∷ []))) before_queue_of_5
+    (Ok (answer.Queue ((entry rank.Overdue 980 2 (Some A2)) ∷ []))) before_queue_of_5
 unfolding machine
 queue_of_5 = (refl, refl)
 
@@ -1145,8 +1163,8 @@ before_queue_of_5_and_6 = record {
 }
 
 queue_of_5_and_6 : Steps (at 40000 (Desk 1) ask.Queue) before_queue_of_5_and_6
-    (Ok (answer.Queue ((entry 5 3315 2 (Some B1)) ∷ (entry 5 39999 2 (Some A1))
-    ∷ (entry 6 2000 0 (Some B2)) ∷ (entry 6 5000 0 (Some B1)) ∷ []))) before_queue_of_5_and_6
+    (Ok (answer.Queue ((entry rank.Overdue 3315 2 (Some B1)) ∷ (entry rank.Overdue 39999 2 (Some A1))
+    ∷ (entry rank.ShiftOver 2000 0 (Some B2)) ∷ (entry rank.ShiftOver 5000 0 (Some B1)) ∷ []))) before_queue_of_5_and_6
 unfolding machine
 queue_of_5_and_6 = (refl, refl)
 
@@ -1168,8 +1186,8 @@ before_queue_of_5_and_6_and_7 = record {
 }
 
 queue_of_5_and_6_and_7 : Steps (at 40001 (Desk 1) ask.Queue) before_queue_of_5_and_6_and_7
-    (Ok (answer.Queue ((entry 5 1980 7 (Some A1)) ∷ (entry 6 40000 0 (Some A1))
-    ∷ (entry 7 0 1 None) ∷ []))) before_queue_of_5_and_6_and_7
+    (Ok (answer.Queue ((entry rank.Overdue 1980 7 (Some A1)) ∷ (entry rank.ShiftOver 40000 0 (Some A1))
+    ∷ (entry rank.Uncovered 0 1 None) ∷ []))) before_queue_of_5_and_6_and_7
 unfolding machine
 queue_of_5_and_6_and_7 = (refl, refl)
 
@@ -1204,8 +1222,8 @@ before_queue_of_5_and_6_and_7_and_8 = record {
 
 queue_of_5_and_6_and_7_and_8 : Steps
     (at 40000 (Desk 7) ask.Queue) before_queue_of_5_and_6_and_7_and_8
-    (Ok (answer.Queue ((entry 5 39999 1 (Some A3)) ∷ (entry 6 40000 0 (Some A1))
-    ∷ (entry 7 0 1 None) ∷ (entry 8 4497 1 (Some A1)) ∷ [])))
+    (Ok (answer.Queue ((entry rank.Overdue 39999 1 (Some A3)) ∷ (entry rank.ShiftOver 40000 0 (Some A1))
+    ∷ (entry rank.Uncovered 0 1 None) ∷ (entry rank.Unanswered 4497 1 (Some A1)) ∷ [])))
     before_queue_of_5_and_6_and_7_and_8
 unfolding machine
 queue_of_5_and_6_and_7_and_8 = (refl, refl)
@@ -1232,8 +1250,8 @@ before_queue_of_5_and_6_and_8 = record {
 }
 
 queue_of_5_and_6_and_8 : Steps (at 3867 (Desk 1) ask.Queue) before_queue_of_5_and_6_and_8
-    (Ok (answer.Queue ((entry 5 1080 2 (Some A3)) ∷ (entry 6 3203 0 (Some A2))
-    ∷ (entry 8 2673 2 (Some A1)) ∷ []))) before_queue_of_5_and_6_and_8
+    (Ok (answer.Queue ((entry rank.Overdue 1080 2 (Some A3)) ∷ (entry rank.ShiftOver 3203 0 (Some A2))
+    ∷ (entry rank.Unanswered 2673 2 (Some A1)) ∷ []))) before_queue_of_5_and_6_and_8
 unfolding machine
 queue_of_5_and_6_and_8 = (refl, refl)
 
@@ -1256,7 +1274,7 @@ before_queue_of_5_and_7 = record {
 }
 
 queue_of_5_and_7 : Steps (at 1803 (Desk 1) ask.Queue) before_queue_of_5_and_7
-    (Ok (answer.Queue ((entry 5 1372 2 (Some A2)) ∷ (entry 7 0 2 None) ∷ [])))
+    (Ok (answer.Queue ((entry rank.Overdue 1372 2 (Some A2)) ∷ (entry rank.Uncovered 0 2 None) ∷ [])))
     before_queue_of_5_and_7
 unfolding machine
 queue_of_5_and_7 = (refl, refl)
@@ -1284,7 +1302,8 @@ before_queue_of_5_and_7_and_8 = record {
 }
 
 queue_of_5_and_7_and_8 : Steps (at 3243 (Desk 7) ask.Queue) before_queue_of_5_and_7_and_8
-    (Ok (answer.Queue ((entry 5 2122 1 (Some A2)) ∷ (entry 7 0 1 None) ∷ (entry 8 2000 1 (Some A1))
+    (Ok (answer.Queue
+    ((entry rank.Overdue 2122 1 (Some A2)) ∷ (entry rank.Uncovered 0 1 None) ∷ (entry rank.Unanswered 2000 1 (Some A1))
     ∷ []))) before_queue_of_5_and_7_and_8
 unfolding machine
 queue_of_5_and_7_and_8 = (refl, refl)
@@ -1311,7 +1330,7 @@ before_queue_of_5_and_8 = record {
 }
 
 queue_of_5_and_8 : Steps (at 1999 (Desk 7) ask.Queue) before_queue_of_5_and_8
-    (Ok (answer.Queue ((entry 5 1312 1 (Some A2)) ∷ (entry 8 1613 1 (Some A1)) ∷ [])))
+    (Ok (answer.Queue ((entry rank.Overdue 1312 1 (Some A2)) ∷ (entry rank.Unanswered 1613 1 (Some A1)) ∷ [])))
     before_queue_of_5_and_8
 unfolding machine
 queue_of_5_and_8 = (refl, refl)
@@ -1335,7 +1354,7 @@ before_queue_of_6 = record {
 }
 
 queue_of_6 : Steps (at 5000 (Desk 2) ask.Queue) before_queue_of_6
-    (Ok (answer.Queue ((entry 6 5000 0 (Some A3)) ∷ []))) before_queue_of_6
+    (Ok (answer.Queue ((entry rank.ShiftOver 5000 0 (Some A3)) ∷ []))) before_queue_of_6
 unfolding machine
 queue_of_6 = (refl, refl)
 
@@ -1357,7 +1376,7 @@ before_queue_of_6_and_7 = record {
 }
 
 queue_of_6_and_7 : Steps (at 5000 (Desk 1) ask.Queue) before_queue_of_6_and_7
-    (Ok (answer.Queue ((entry 6 5000 0 (Some A2)) ∷ (entry 7 0 1 None) ∷ [])))
+    (Ok (answer.Queue ((entry rank.ShiftOver 5000 0 (Some A2)) ∷ (entry rank.Uncovered 0 1 None) ∷ [])))
     before_queue_of_6_and_7
 unfolding machine
 queue_of_6_and_7 = (refl, refl)
@@ -1383,8 +1402,8 @@ before_queue_of_6_and_7_and_8 = record {
 }
 
 queue_of_6_and_7_and_8 : Steps (at 40001 (Desk 1) ask.Queue) before_queue_of_6_and_7_and_8
-    (Ok (answer.Queue ((entry 6 40000 0 (Some A2)) ∷ (entry 7 0 1 None)
-    ∷ (entry 8 1284 7 (Some A2)) ∷ []))) before_queue_of_6_and_7_and_8
+    (Ok (answer.Queue ((entry rank.ShiftOver 40000 0 (Some A2)) ∷ (entry rank.Uncovered 0 1 None)
+    ∷ (entry rank.Unanswered 1284 7 (Some A2)) ∷ []))) before_queue_of_6_and_7_and_8
 unfolding machine
 queue_of_6_and_7_and_8 = (refl, refl)
 
@@ -1406,8 +1425,9 @@ before_queue_of_6_and_8 = record {
 }
 
 queue_of_6_and_8 : Steps (at 2022 (Desk 1) ask.Queue) before_queue_of_6_and_8
-    (Ok (answer.Queue ((entry 6 2000 0 (Some A1)) ∷ (entry 6 2000 0 (Some A2))
-    ∷ (entry 8 1721 2 (Some A1)) ∷ (entry 8 1721 2 (Some A2)) ∷ []))) before_queue_of_6_and_8
+    (Ok (answer.Queue ((entry rank.ShiftOver 2000 0 (Some A1)) ∷ (entry rank.ShiftOver 2000 0 (Some A2))
+    ∷ (entry rank.Unanswered 1721 2 (Some A1)) ∷ (entry rank.Unanswered 1721 2 (Some A2)) ∷ [])))
+    before_queue_of_6_and_8
 unfolding machine
 queue_of_6_and_8 = (refl, refl)
 
@@ -1431,7 +1451,7 @@ before_queue_of_7 = record {
 }
 
 queue_of_7 : Steps (at 3406 (Desk 1) ask.Queue) before_queue_of_7
-    (Ok (answer.Queue ((entry 7 0 1 None) ∷ []))) before_queue_of_7
+    (Ok (answer.Queue ((entry rank.Uncovered 0 1 None) ∷ []))) before_queue_of_7
 unfolding machine
 queue_of_7 = (refl, refl)
 
@@ -1453,7 +1473,7 @@ before_queue_of_7_and_8 = record {
 }
 
 queue_of_7_and_8 : Steps (at 1999 (Desk 2) ask.Queue) before_queue_of_7_and_8
-    (Ok (answer.Queue ((entry 7 0 2 None) ∷ (entry 8 1005 1 (Some A2)) ∷ [])))
+    (Ok (answer.Queue ((entry rank.Uncovered 0 2 None) ∷ (entry rank.Unanswered 1005 1 (Some A2)) ∷ [])))
     before_queue_of_7_and_8
 unfolding machine
 queue_of_7_and_8 = (refl, refl)
@@ -1477,7 +1497,7 @@ before_queue_of_8 = record {
 }
 
 queue_of_8 : Steps (at 1963 (Desk 1) ask.Queue) before_queue_of_8
-    (Ok (answer.Queue ((entry 8 1662 2 (Some A3)) ∷ []))) before_queue_of_8
+    (Ok (answer.Queue ((entry rank.Unanswered 1662 2 (Some A3)) ∷ []))) before_queue_of_8
 unfolding machine
 queue_of_8 = (refl, refl)
 

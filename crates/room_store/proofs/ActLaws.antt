@@ -9,7 +9,7 @@ use Rattle.room_model.specs.Decisions.{changes_of}
 use Rattle.room_model.specs.Room.{Room, apply}
 use Rattle.room_model.specs.Step.{decided, room_after}
 use Rattle.room_model.specs.Digests.{IsHeadOf, digits_of}
-use Rattle.room_model.specs.declared.digests.Head.{Head}
+use Rattle.room_model.specs.declared.digests.StartDigest.{StartDigest}
 use Rattle.room_tables.specs.RoomsInTables.{Configuration, Stands}
 use Rattle.room_tables.proofs.RoomReads.{kept}
 use Rattle.room_store_writes.specs.Transactions.{Commits}
@@ -63,7 +63,7 @@ module _ (old mid new : State) (layout : Layout) (known : Cache) (event : Event)
 
 -- before the reads and after them: what the changes lead to, the event leads to
 module _ (old mid : State) (layout : Layout) (known : Cache) (event : Event)
-    (changes : List Change) (head : Head)
+    (changes : List Change) (head : StartDigest)
     (same : HasCleanDisk mid → IsUnchanged old mid)
     (is : HasCleanDisk mid → (config : Configuration) (room : Room) → IsFor old.now.trees layout known event config room
     → changes ≡ changes_of (decided event room)) where

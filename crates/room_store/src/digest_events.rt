@@ -10,7 +10,7 @@ ghost use Rattle.room_types.specs.declared.refusal_statuses.Refusal.TheVariants.
 ghost use Rattle.room_model.specs.Room.{Room};
 ghost use Rattle.room_model.specs.Step.{answer_to, room_after};
 ghost use Rattle.room_model.specs.Digests.{IsMiss};
-ghost use Rattle.room_model.specs.declared.digests.Miss.TheVariants.{OtherDigest};
+ghost use Rattle.room_model.specs.declared.digests.DigestMismatch.TheVariants.{OtherDigest};
 ghost use Rattle.room_tables.specs.RoomsInTables.{Configuration, Stands};
 ghost use Rattle.room_store_writes.specs.Transactions.{Commits, LeavesOnErr};
 ghost use Rattle.room_store_cache.specs.Cache.{IsCacheOf};
@@ -21,8 +21,8 @@ ghost use Rattle.room_store.specs.DigestEvents.{IsHeadAfter};
 use crate::acted_events::{Prepared, prepare};
 use crate::store::Store;
 use crate::store_faults::refusal_of;
-use room_model::digests::{Head, Miss};
-use room_store_file::digest_changes::{Undone, write_towards};
+use room_model::digests::{DigestMismatch, StartDigest};
+use room_store_file::digest_changes::{FailedStep, write_towards};
 use room_tables::connection_lemmas::lemma_committed;
 use room_types::answers::Answer;
 use room_types::asks::Event;
@@ -37,9 +37,9 @@ impl<S: Alter> Store<S> {
         &mut self,
         alloc: Global,
         event: &Event,
-        head: &Head,
+        head: &StartDigest,
         render: F,
-    ) -> Result<Vec<u8>, Miss>
+    ) -> Result<Vec<u8>, DigestMismatch>
         requires room { HasRoomSchema S.Store self.old.conn }
         requires outside { self.old.conn.in_transaction ≡ false }
         requires open { IsTrue self.old.cache.fleet.is_known → StandsOpen S.Store self.old.conn }
@@ -92,7 +92,7 @@ impl<S: Alter> Store<S> {
             render,
         ) {
             Ok(prepared) => prepared,
-            Err(refusal) => return Err(Miss::Unavailable(refusal)),
+            Err(refusal) => return Err(DigestMismatch::Unavailable(refusal)),
         };
         let Prepared { changes, bytes } = prepared;
         if let Err(undone) = write_towards(&mut self.conn, changes.as_slice(), head) {
@@ -104,11 +104,11 @@ impl<S: Alter> Store<S> {
 }
 
 // The miss that reports that changes were undone.
-fn miss_of(undone: Undone) -> Miss
+fn miss_of(undone: FailedStep) -> DigestMismatch
     ensures { result ≡ miss_of undone }
 {
     match undone {
-        Undone::OtherDigest => Miss::OtherDigest,
-        Undone::Unavailable(fault) => Miss::Unavailable(refusal_of(fault)),
+        FailedStep::OtherDigest => DigestMismatch::OtherDigest,
+        FailedStep::Unavailable(fault) => DigestMismatch::Unavailable(refusal_of(fault)),
     }
 }

@@ -1,14 +1,17 @@
 //! What the room in the tables decides of an event. Nothing is written.
-ghost use Rattle.std.specs.Prelude.{◌≡◌, ℕ, IsTrue, IfOk};
+ghost use Rattle.std.specs.Prelude.{◌≡◌, ℕ, IsTrue, IfOk, Some};
 ghost use Rattle.sqlite.specs.Held.{state};
 ghost use Rattle.room_tables_schema.specs.FileConnections.{HasRoomSchema, IsClean, StandsOpen};
 ghost use Rattle.room_tables_schema.specs.Outcomes.{ReadsOnly};
 ghost use Rattle.room_types.specs.declared.asks.Ask.TheVariants.{Call as CallAsk};
 ghost use Rattle.room_types.specs.declared.asks.Ask.TheVariants.{Report as ReportAsk};
 ghost use Rattle.room_types.specs.declared.asks.CallForm.{CallForm as FormModel};
+ghost use Rattle.room_types.specs.declared.asks.Who.TheVariants.{Crew};
 ghost use Rattle.room_model.specs.Calls.{new_call, show_last_serial, take_call};
+ghost use Rattle.room_model.specs.CrewJobs.{show_job};
+ghost use Rattle.room_model.specs.Queries.{assignment_at};
 ghost use Rattle.room_model.specs.Room.{Room};
-ghost use Rattle.room_model.specs.Step.{crew_asks, decided, desk_asks};
+ghost use Rattle.room_model.specs.Step.{crew_asks, decided, desk_asks, who_asks};
 ghost use Rattle.room_model.specs.RoomAgreements.{IsWellFormed};
 ghost use Rattle.room_tables.specs.RoomsInTables.{Configuration};
 ghost use Rattle.room_tables.specs.FoundRows.{Finds};
@@ -21,7 +24,7 @@ ghost use Rattle.room_store_reads.specs.Partitions.{AreKnown};
 
 use crate::store_faults::refusal_of;
 use room_core::call_decisions::{decide_call, decide_last_serial};
-use room_core::crew_decisions::decide_crew;
+use room_core::crew_decisions::{decide_crew, decide_job};
 use room_core::desk_decisions::decide_desk;
 use room_core::kept_answers::{decide_repeated_call, decide_repeated_report};
 use room_place::plans::{DivisionNumber, Plan};
@@ -29,7 +32,7 @@ use room_store_cache::cache::Cache;
 use room_store_cache::fleets::Fleet;
 use room_store_reads::crew_reads::{load_crew, load_report};
 use room_store_reads::request_reads::reads_of;
-use room_store_reads::working_rows::{load_beside_fleet, working_slice};
+use room_store_reads::working_rows::{load_history_rows, working_slice};
 use room_tables::call_table::last_serial;
 use room_tables::table_loads::row_at;
 use room_types::asks::{Ask, CallForm, Event, NewCall, Press, Who};
@@ -38,7 +41,7 @@ use room_types::crews::CrewSlice;
 use room_types::decisions::Decision;
 use room_types::numbers::{Moment, PositionNumber};
 use room_types::refusal_statuses::Refusal;
-use room_types::tables::{Call, Vehicle};
+use room_types::tables::{Assignment, Call, Vehicle};
 use sqlite::{Alter, Connection};
 use std::alloc::Global;
 
@@ -70,7 +73,7 @@ pub(crate) fn decide<S: Alter>(
     }
     match &event.who {
         Who::Desk(division) => for_desk(alloc, conn, plan, cache, *division, event),
-        Who::Crew(callsign) => { for_crew(conn, &mut cache.fleet, callsign, &event.ask, event.at) }
+        Who::Crew(callsign) => for_crew(alloc, conn, cache, callsign, &event.ask, event.at),
         Who::Position(position) => match &event.ask {
             Ask::Call(form) => {
                 let call = new_call(*position, form, event.at);
@@ -102,7 +105,7 @@ fn for_desk<S: Alter>(
     ensures reads { ReadsOnly S.Store conn.old conn.new (unless_unavailable result) }
 {
     let reads = reads_of(division, &event.ask);
-    let beside = match load_beside_fleet(alloc, conn, division, &reads, event.at, cache) {
+    let beside = match load_history_rows(alloc, conn, division, &reads, event.at, cache) {
         Ok(beside) => beside,
         Err(fault) => return Err(refusal_of(fault)),
     };
@@ -117,8 +120,9 @@ fn for_desk<S: Alter>(
 
 // What a vehicle's crew asks.
 fn for_crew<S: Alter>(
+    alloc: Global,
     conn: &mut Connection<S>,
-    fleet: &mut Fleet,
+    cache: &mut Cache,
     callsign: &Callsign,
     ask: &Ask,
     at: Moment,
@@ -126,21 +130,87 @@ fn for_crew<S: Alter>(
     requires room { HasRoomSchema S.Store conn.old }
     requires open { StandsOpen S.Store conn.old }
     ensures decided { Finds S.Store conn.old conn.new (unless_unavailable result) (λ room x.
-        IsWellFormed room → HasFleetOf fleet.old room
-        → x ≡ crew_asks callsign.now ask.now at room) }
-    ensures known { Finds S.Store conn.old conn.new (unless_unavailable result) (λ room _.
-        HasFleetOf fleet.old room → HasFleetOf fleet.new room) }
+        IsWellFormed room → HasFleetOf cache.old.fleet room → IsCacheOf cache.old room
+        → x ≡ who_asks (Crew callsign.now) ask.now at room) }
+    ensures cache { Finds S.Store conn.old conn.new (unless_unavailable result) (λ room _.
+        IsWellFormed room → HasFleetOf cache.old.fleet room → IsCacheOf cache.old room
+        → IsCacheOf cache.new room) }
     ensures reads { ReadsOnly S.Store conn.old conn.new (unless_unavailable result) }
 {
-    let Some(vehicle) = fleet.get().vehicles.get(callsign).copied() else {
+    let Some(vehicle) = cache.fleet.get().vehicles.get(callsign).copied() else {
         return Err(Refusal::Storage);
     };
     match ask {
-        Ask::Report(press) => for_report(conn, fleet, &vehicle, press, ask, at),
-        Ask::Order => by_rows(conn, fleet, &vehicle, ask, at),
-        Ask::Last => by_rows(conn, fleet, &vehicle, ask, at),
+        Ask::Report(press) => for_report(conn, &mut cache.fleet, &vehicle, press, ask, at),
+        Ask::Order => by_rows(conn, &mut cache.fleet, &vehicle, ask, at),
+        Ask::Job => for_job(alloc, conn, cache, &vehicle, at),
+        Ask::Last => by_rows(conn, &mut cache.fleet, &vehicle, ask, at),
         _ => Err(Refusal::WrongRole),
     }
+}
+
+// What a crew asks of its incident: without an order it asks for its order.
+fn for_job<S: Alter>(
+    alloc: Global,
+    conn: &mut Connection<S>,
+    cache: &mut Cache,
+    vehicle: &Vehicle,
+    at: Moment,
+) -> Result<Decision, Refusal>
+    requires room { HasRoomSchema S.Store conn.old }
+    requires open { StandsOpen S.Store conn.old }
+    ensures decided { Finds S.Store conn.old conn.new (unless_unavailable result) (λ room x.
+        IsWellFormed room → HasFleetOf cache.old.fleet room → IsCacheOf cache.old room
+        → HasVehicle vehicle.now room → x ≡ show_job vehicle.now.callsign room) }
+    ensures cache { Finds S.Store conn.old conn.new (unless_unavailable result) (λ room _.
+        IsWellFormed room → HasFleetOf cache.old.fleet room → IsCacheOf cache.old room
+        → IsCacheOf cache.new room) }
+    ensures reads { ReadsOnly S.Store conn.old conn.new (unless_unavailable result) }
+{
+    let assigned = cache
+        .fleet
+        .get()
+        .assignments
+        .get(&vehicle.callsign)
+        .copied();
+    match assigned {
+        Some(order) => for_order(alloc, conn, cache, vehicle, &order, at),
+        None => by_rows(conn, &mut cache.fleet, vehicle, &Ask::Order, at),
+    }
+}
+
+// What a crew that has an order is told of its incident, on the rows that its history reads.
+fn for_order<S: Alter>(
+    alloc: Global,
+    conn: &mut Connection<S>,
+    cache: &mut Cache,
+    vehicle: &Vehicle,
+    order: &Assignment,
+    at: Moment,
+) -> Result<Decision, Refusal>
+    requires room { HasRoomSchema S.Store conn.old }
+    requires open { StandsOpen S.Store conn.old }
+    ensures decided { Finds S.Store conn.old conn.new (unless_unavailable result) (λ room x.
+        IsWellFormed room → AreKnown cache.old room → HasVehicle vehicle.now room
+        → assignment_at vehicle.now.callsign room ≡ Some order.now
+        → x ≡ show_job vehicle.now.callsign room) }
+    ensures known { Finds S.Store conn.old conn.new (unless_unavailable result) (λ room _.
+        IsWellFormed room → AreKnown cache.old room → AreKnown cache.new room) }
+    ensures fleet { cache.new.fleet ≡ cache.old.fleet }
+    ensures reads { ReadsOnly S.Store conn.old conn.new (unless_unavailable result) }
+{
+    let reads = reads_of(order.division, &Ask::Incident(order.incident));
+    let beside = match load_history_rows(alloc, conn, order.division, &reads, at, cache) {
+        Ok(beside) => beside,
+        Err(fault) => return Err(refusal_of(fault)),
+    };
+    let slice = match working_slice(alloc, order.division, &reads, cache.fleet.get(), beside) {
+        Ok(slice) => slice,
+        Err(fault) => return Err(refusal_of(fault)),
+    };
+    let decision = decide_job(alloc, &slice, vehicle, order);
+    drop(slice);
+    decision
 }
 
 // A report, kept already or new.
@@ -228,7 +298,7 @@ fn for_call<S: Alter>(
         return Err(Refusal::OutsideArea);
     };
     let reads = reads_of(division, ask);
-    let beside = match load_beside_fleet(alloc, conn, division, &reads, call.at, cache) {
+    let beside = match load_history_rows(alloc, conn, division, &reads, call.at, cache) {
         Ok(beside) => beside,
         Err(fault) => return Err(refusal_of(fault)),
     };

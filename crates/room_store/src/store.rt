@@ -17,7 +17,7 @@ ghost use Rattle.room_model.specs.RoomAgreements.{IsWellFormed};
 ghost use Rattle.room_tables_schema.specs.FileConnections.{HasRoomSchema, IsClean};
 ghost use Rattle.room_model.specs.Digests.{IsMiss};
 ghost use Rattle.room_model.specs.Rooms.{IsUnavailable, who_at};
-ghost use Rattle.room_model.specs.declared.digests.Miss.TheVariants.{OtherDigest};
+ghost use Rattle.room_model.specs.declared.digests.DigestMismatch.TheVariants.{OtherDigest};
 ghost use Rattle.room_tables.specs.RoomsInTables.{Stands};
 ghost use Rattle.room_tables_rows.specs.declared.meta_sql.TheConstants.{ALL_META};
 ghost use Rattle.room_store_writes.specs.Transactions.{IsSettled, Leaves, LeavesOnErr};
@@ -28,7 +28,7 @@ ghost use Rattle.room_store_writes.specs.Configurations.{config_of};
 
 use crate::acted_events::{act_on, lemma_numbered};
 use crate::store_faults::refusal_of;
-use room_model::digests::{Head, Miss};
+use room_model::digests::{DigestMismatch, StartDigest};
 use room_place::plans::Plan;
 use room_store_cache::cache::Cache;
 use room_store_cache::known_terminals::Terminals;
@@ -212,9 +212,9 @@ impl<S: Alter> Store<S> {
         &mut self,
         alloc: Global,
         event: &Event,
-        head: &Head,
+        head: &StartDigest,
         render: F,
-    ) -> Result<Vec<u8>, Miss>
+    ) -> Result<Vec<u8>, DigestMismatch>
         requires ready { IsReady S.Store self.old }
         requires callable { F.IsAlwaysCallable render }
         requires memory { (answer : Result Answered Why) (r : _)
@@ -250,7 +250,7 @@ impl<S: Alter> Store<S> {
             → Stands db (config_of self.old.plan terminals) (room_after event.now room)) }
     {
         if !self.is_sound {
-            return Err(Miss::Unavailable(Refusal::Storage));
+            return Err(DigestMismatch::Unavailable(Refusal::Storage));
         }
         lemma_numbered(&event.ask);
         match self.commit_towards(alloc, event, head, render) {
@@ -263,7 +263,7 @@ impl<S: Alter> Store<S> {
     }
 
     // What is reported for a miss once the file was tested: `Storage` where it is shut.
-    fn after_test(&self, miss: Miss) -> Miss
+    fn after_test(&self, miss: DigestMismatch) -> DigestMismatch
         ensures missed { IsMiss miss → IsMiss result }
         ensures same { result ≡ OtherDigest → miss ≡ OtherDigest }
         ensures sound { result ≡ OtherDigest → IsTrue self.now.is_sound }
@@ -271,7 +271,7 @@ impl<S: Alter> Store<S> {
         if self.is_sound {
             miss
         } else {
-            Miss::Unavailable(Refusal::Storage)
+            DigestMismatch::Unavailable(Refusal::Storage)
         }
     }
 

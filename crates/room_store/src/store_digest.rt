@@ -9,7 +9,7 @@ ghost use Rattle.room_tables_schema.specs.FileConnections.{IsClean};
 
 use crate::store::Store;
 use crate::store_faults::refusal_of;
-use room_model::digests::{Digested, Head, Miss, Version};
+use room_model::digests::{DigestMismatch, Digested, StartDigest, Version};
 use room_store_file::room_digest::digest_in;
 use room_tables_schema::database_faults::Fault;
 use room_types::answers::Answer;
@@ -29,9 +29,9 @@ impl<S: Alter> Digested for Store<S> {
         &mut self,
         alloc: Global,
         event: &Event,
-        head: &Head,
+        head: &StartDigest,
         render: F,
-    ) -> Result<Vec<u8>, Miss> {
+    ) -> Result<Vec<u8>, DigestMismatch> {
         Store::act_towards(self, alloc, event, head, render)
     }
 }

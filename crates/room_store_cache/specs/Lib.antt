@@ -5,7 +5,7 @@ pub mod RecentIncidents
 -- lemmas: the keys of entries distinguish them
 pub mod EntryLemmas
 -- what a request reads beside the fleet
-pub mod BesideFleet
+pub mod HistoryRows
 -- which queue views are of a room
 pub mod QueueViews
 -- which incident views are of a room

@@ -5,13 +5,13 @@ ghost use Rattle.room_types.specs.declared.asks.Ask.{Ask};
 ghost use Rattle.room_model.specs.Room.{IsInOrder, Room};
 ghost use Rattle.room_model.specs.WorkingRows.{reads_number};
 ghost use Rattle.room_tables_schema.specs.declared.database_faults.Fault.TheVariants.{Memory};
-ghost use Rattle.room_store_cache.specs.BesideFleet.{IsBesideFleet};
+ghost use Rattle.room_store_cache.specs.HistoryRows.{AreHistoryRows};
 ghost use Rattle.room_store_cache.specs.EntryLemmas.{exact_pair};
 ghost use Rattle.room_store_cache.specs.IncidentViews.{AreIncidentViewsOf, IsIncidentViewOf};
 
-use crate::beside_fleet::BesideFleet;
 use crate::cached_rows::{put, put_if};
 use crate::entries::{Entries, Entry};
+use crate::history_rows::HistoryRows;
 use room_place::plans::DivisionNumber;
 use room_tables_schema::database_faults::Fault;
 use room_types::changes::Change;
@@ -37,9 +37,9 @@ pub type IncidentViews = Entries<IncidentView>;
 
 impl Entries<IncidentView> {
     /// Keeps the incidents that a queue shows, with their turns, where they are few.
-    pub fn fill_shown(&mut self, alloc: Global, division: DivisionNumber, rows: &BesideFleet)
+    pub fn fill_shown(&mut self, alloc: Global, division: DivisionNumber, rows: &HistoryRows)
         ensures { (room : Room) (at : ℕ) → IsInOrder room
-            → IsBesideFleet division Queue at room rows.now
+            → AreHistoryRows division Queue at room rows.now
             → AreIncidentViewsOf self.old.kept.items room
             → AreIncidentViewsOf self.new.kept.items room }
     {
@@ -58,11 +58,11 @@ impl Entries<IncidentView> {
         alloc: Global,
         division: DivisionNumber,
         number: Number,
-        rows: &BesideFleet,
+        rows: &HistoryRows,
     )
         ensures { (room : Room) (ask : Ask) (at : ℕ) → IsInOrder room
             → reads_number division ask room number ≡ true
-            → IsBesideFleet division ask at room rows.now
+            → AreHistoryRows division ask at room rows.now
             → AreIncidentViewsOf self.old.kept.items room
             → AreIncidentViewsOf self.new.kept.items room }
     {
@@ -119,11 +119,11 @@ fn incident_view_of(
     alloc: Global,
     division: DivisionNumber,
     number: Number,
-    rows: &BesideFleet,
+    rows: &HistoryRows,
 ) -> Result<IncidentView, Fault>
     ensures incident_view { IfOk result (λ incident_view. (room : Room) (ask : Ask) (at : ℕ)
         → IsInOrder room → reads_number division ask room number ≡ true
-        → IsBesideFleet division ask at room rows.now
+        → AreHistoryRows division ask at room rows.now
         → IsIncidentViewOf incident_view room) }
     ensures memory { IfErr result (λ e. e ≡ Memory) }
 {

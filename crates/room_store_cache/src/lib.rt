@@ -19,12 +19,12 @@
 //! so a change that is left out is refused here, and not seen in a desk's list.
 #![tactic(auto)]
 
-pub mod beside_fleet;
 pub mod cache;
 pub mod cached_rows;
 pub mod entries;
 pub mod fleets;
 pub mod half_hours;
+pub mod history_rows;
 pub mod incident_views;
 pub mod known_terminals;
 pub mod open_turns;

@@ -3,14 +3,14 @@ ghost use Rattle.std.specs.Prelude.{◌≡◌, ℕ, IfErr, IfOk};
 ghost use Rattle.room_types.specs.declared.asks.Ask.TheVariants.{Queue};
 ghost use Rattle.room_model.specs.Room.{Room};
 ghost use Rattle.room_tables_schema.specs.declared.database_faults.Fault.TheVariants.{Memory};
-ghost use Rattle.room_store_cache.specs.BesideFleet.{IsBesideFleet};
+ghost use Rattle.room_store_cache.specs.HistoryRows.{AreHistoryRows};
 ghost use Rattle.room_store_cache.specs.EntryLemmas.{exact_number};
 ghost use Rattle.room_store_cache.specs.QueueViews.{AreQueueViewsOf, IsQueueViewOf};
 ghost use Rattle.room_store_cache.specs.QueueViews.{is_own_exception, is_waiting};
 
-use crate::beside_fleet::BesideFleet;
 use crate::cached_rows::{own_rows, put_if};
 use crate::entries::{Entries, Entry};
+use crate::history_rows::HistoryRows;
 use room_place::plans::DivisionNumber;
 use room_tables_schema::database_faults::Fault;
 use room_types::changes::Change;
@@ -31,9 +31,9 @@ pub type QueueViews = Entries<QueueView>;
 
 impl Entries<QueueView> {
     /// Keeps what waits in a division, out of the rows that its queue reads, where it isn't known.
-    pub fn fill(&mut self, alloc: Global, division: DivisionNumber, rows: &BesideFleet)
+    pub fn fill(&mut self, alloc: Global, division: DivisionNumber, rows: &HistoryRows)
         ensures { (room : Room) (at : ℕ)
-            → IsBesideFleet division Queue at room rows.now
+            → AreHistoryRows division Queue at room rows.now
             → AreQueueViewsOf self.old.kept.items room → AreQueueViewsOf self.new.kept.items room }
     {
         if self.get(&division).is_some() {
@@ -77,10 +77,10 @@ impl Entry for QueueView {
 fn queue_view_of(
     alloc: Global,
     division: DivisionNumber,
-    rows: &BesideFleet,
+    rows: &HistoryRows,
 ) -> Result<QueueView, Fault>
     ensures queue_view { IfOk result (λ queue_view. (room : Room) (at : ℕ)
-        → IsBesideFleet division Queue at room rows.now
+        → AreHistoryRows division Queue at room rows.now
         → IsQueueViewOf queue_view room) }
     ensures memory { IfErr result (λ e. e ≡ Memory) }
 {

@@ -3,13 +3,13 @@ ghost use Rattle.std.specs.Prelude.{◌≡◌, ◌==◌, ◌&&◌, ℕ, IfErr, I
 ghost use Rattle.room_types.specs.declared.asks.Ask.TheVariants.{Incidents};
 ghost use Rattle.room_model.specs.Room.{IsInOrder, Room};
 ghost use Rattle.room_tables_schema.specs.declared.database_faults.Fault.TheVariants.{Memory};
-ghost use Rattle.room_store_cache.specs.BesideFleet.{IsBesideFleet};
+ghost use Rattle.room_store_cache.specs.HistoryRows.{AreHistoryRows};
 ghost use Rattle.room_store_cache.specs.EntryLemmas.{exact_number};
 ghost use Rattle.room_store_cache.specs.ShownLists.{AreShownListsOf, IsShownListOf, has, is_among};
 
-use crate::beside_fleet::BesideFleet;
 use crate::cached_rows::{own_rows, put_if};
 use crate::entries::{Entries, Entry};
+use crate::history_rows::HistoryRows;
 use room_place::plans::DivisionNumber;
 use room_tables_schema::database_faults::Fault;
 use room_types::changes::Change;
@@ -56,9 +56,9 @@ impl ShownList {
 impl Entries<ShownList> {
     /// Keeps the incidents that a division's list shows, out of the rows that it reads, where they
     /// aren't all known.
-    pub fn fill(&mut self, alloc: Global, division: DivisionNumber, rows: &BesideFleet)
+    pub fn fill(&mut self, alloc: Global, division: DivisionNumber, rows: &HistoryRows)
         ensures { (room : Room) (at : ℕ) → IsInOrder room
-            → IsBesideFleet division Incidents at room rows.now
+            → AreHistoryRows division Incidents at room rows.now
             → AreShownListsOf self.old.kept.items room → AreShownListsOf self.new.kept.items room }
     {
         if let Some(list) = self.get(&division)
@@ -102,9 +102,9 @@ impl Entry for ShownList {
 }
 
 // What a list shows, out of the rows that it reads. The one fault is `Memory`.
-fn list_of(alloc: Global, division: DivisionNumber, rows: &BesideFleet) -> Result<ShownList, Fault>
+fn list_of(alloc: Global, division: DivisionNumber, rows: &HistoryRows) -> Result<ShownList, Fault>
     ensures list { IfOk result (λ list. (room : Room) (at : ℕ) → IsInOrder room
-        → IsBesideFleet division Incidents at room rows.now
+        → AreHistoryRows division Incidents at room rows.now
         → IsShownListOf list room) }
     ensures division { IfOk result (λ list. list.division ≡ division) }
     ensures memory { IfErr result (λ e. e ≡ Memory) }

@@ -3,12 +3,12 @@ use Rattle.std.proofs.Common.{◌≡◌, ◌⊎◌, inl, inr, Err, Ok, Result, s
 use Rattle.std.specs.Prelude.{IfErr}
 use Rattle.sqlite.specs.declared.error.Error.{Error}
 use Rattle.room_tables_schema.specs.DatabaseFaults.{fault_of}
-use Rattle.room_store_file.specs.declared.digest_changes.Undone.{Undone}
-use Rattle.room_store_file.specs.declared.digest_changes.Undone.TheVariants.{OtherDigest}
-use Rattle.room_store_file.specs.declared.digest_changes.Undone.TheVariants.{Unavailable}
+use Rattle.room_store_file.specs.declared.digest_changes.FailedStep.{FailedStep}
+use Rattle.room_store_file.specs.declared.digest_changes.FailedStep.TheVariants.{OtherDigest}
+use Rattle.room_store_file.specs.declared.digest_changes.FailedStep.TheVariants.{Unavailable}
 
 -- that there is another digest is reported where it was found
-pub another_reported : {T U : Type 0} (result : Result T Undone) (done : Result U Undone) (P : Type 0)
+pub another_reported : {T U : Type 0} (result : Result T FailedStep) (done : Result U FailedStep) (P : Type 0)
     → IfErr result (λ e. (done ≡ Err e) ⊎ ((cause : Error) × (e ≡ Unavailable (fault_of cause))))
     → IfErr done (λ e. e ≡ OtherDigest → P) → IfErr result (λ e. e ≡ OtherDigest → P)
 another_reported (Ok x) done P why found = tt

@@ -11,11 +11,11 @@ ghost use Rattle.room_tables_schema.specs.Outcomes.{CommitsNothing};
 ghost use Rattle.room_store_writes.specs.Transactions.{Commits, MakesAll, LeavesOnErr};
 ghost use Rattle.room_store_writes.specs.Transactions.{StandsSettled};
 ghost use Rattle.room_store_file.specs.DigestChanges.{Misses, Reaches};
-ghost use Rattle.room_store_file.specs.declared.digest_changes.Undone.TheVariants.{OtherDigest};
-ghost use Rattle.room_store_file.specs.declared.digest_changes.Undone.TheVariants.{Unavailable};
+ghost use Rattle.room_store_file.specs.declared.digest_changes.FailedStep.TheVariants.{OtherDigest};
+ghost use Rattle.room_store_file.specs.declared.digest_changes.FailedStep.TheVariants.{Unavailable};
 
 use crate::room_digest::digest_inside;
-use room_model::digests::Head;
+use room_model::digests::StartDigest;
 use room_store_writes::transactions::{end, put_each};
 use room_tables_schema::database_faults::Fault;
 use room_types::changes::Change;
@@ -23,26 +23,26 @@ use sqlite::{Alter, Connection, Error, Transaction};
 
 /// Why changes were undone.
 #[derive(Clone, Copy)]
-pub enum Undone {
+pub enum FailedStep {
     /// The room comes to another digest by them.
     OtherDigest,
     /// Memory was refused, or storage failed.
     Unavailable(Fault),
 }
 
-impl From<Fault> for Undone {
+impl From<Fault> for FailedStep {
     ghost from_gives = { λ fault undone. undone ≡ Unavailable fault };
 
-    fn from(fault: Fault) -> Undone {
-        Undone::Unavailable(fault)
+    fn from(fault: Fault) -> FailedStep {
+        FailedStep::Unavailable(fault)
     }
 }
 
-impl From<Error> for Undone {
+impl From<Error> for FailedStep {
     ghost from_gives = { λ error undone. undone ≡ Unavailable (fault_of error) };
 
-    fn from(error: Error) -> Undone {
-        Undone::Unavailable(Fault::from(error))
+    fn from(error: Error) -> FailedStep {
+        FailedStep::Unavailable(Fault::from(error))
     }
 }
 
@@ -51,8 +51,8 @@ impl From<Error> for Undone {
 pub fn write_towards<S: Alter>(
     conn: &mut Connection<S>,
     changes: &[Change],
-    head: &Head,
-) -> Result<(), Undone>
+    head: &StartDigest,
+) -> Result<(), FailedStep>
     requires room { HasRoomSchema S.Store conn.old }
     requires outside { conn.old.in_transaction ≡ false }
     requires settled { StandsSettled S.Store conn.old }
@@ -79,8 +79,8 @@ pub fn write_towards<S: Alter>(
 fn make_towards<S: Alter>(
     tx: &mut Transaction<'_, S>,
     changes: &[Change],
-    head: &Head,
-) -> Result<(), Undone>
+    head: &StartDigest,
+) -> Result<(), FailedStep>
     requires inside { MayWrite S.Store tx.old.conn.now }
     ensures same_reference { tx.new.conn.ghost_name ≡ tx.old.conn.ghost_name }
     ensures ok { IsClean S.Store tx.new.conn.now
@@ -98,7 +98,7 @@ fn make_towards<S: Alter>(
     if is_written(&hash, &head.digits) {
         Ok(())
     } else {
-        Err(Undone::OtherDigest)
+        Err(FailedStep::OtherDigest)
     }
 }
 

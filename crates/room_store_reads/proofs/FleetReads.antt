@@ -3,12 +3,12 @@ use Rattle.std.proofs.Common.{ap, refl, sym, true, ℕ, ◌&&◌, ◌∙◌, ◌
 use Rattle.std.specs.Prelude.{◌==◌}
 use Rattle.room_types.specs.Keys.{owns_report}
 use Rattle.room_types.specs.declared.asks.Ask.{Ask}
-use Rattle.room_store_cache.specs.declared.beside_fleet.BesideFleet.{BesideFleet}
+use Rattle.room_store_cache.specs.declared.history_rows.HistoryRows.{HistoryRows}
 use Rattle.room_model.specs.Room.{Room}
 use Rattle.room_model.specs.WorkingRows.{names_turn, reads_calls, reads_incident, reads_number}
 use Rattle.room_model.specs.WorkingRows.{reads_report}
 use Rattle.room_store_cache.proofs.Filters.{and_none}
-use Rattle.room_store_cache.specs.BesideFleet.{IsBesideFleet}
+use Rattle.room_store_cache.specs.HistoryRows.{AreHistoryRows}
 use Rattle.room_store_reads.proofs.ReadFilters.{filter_never}
 use Rattle.room_store_reads.proofs.Selected.{incident_is, number_is, report_is}
 use Rattle.room_store_reads.specs.Partitions.{IsOfFleet}
@@ -38,9 +38,9 @@ all_nothing (incidents.One n) y z is = absurd (cc)
 all_nothing (incidents.Two n m) y z is = absurd (cc)
 
 -- a request that reads nothing but the fleet reads nothing beside it
-pub are_of_fleet : (d : ℕ) (a : Ask) (at : ℕ) (room : Room) (x : BesideFleet) (reads : Reads)
+pub are_of_fleet : (d : ℕ) (a : Ask) (at : ℕ) (room : Room) (x : HistoryRows) (reads : Reads)
     → IsOfFleet x → Selects d a reads
-    → is_of_fleet reads.incidents reads.reports reads.turns ≡ true → IsBesideFleet d a at room x
+    → is_of_fleet reads.incidents reads.reports reads.turns ≡ true → AreHistoryRows d a at room x
 are_of_fleet d a at room x reads only selects is =
     let none = all_nothing reads.incidents reads.reports reads.turns is in
     let number = λ (n : ℕ).

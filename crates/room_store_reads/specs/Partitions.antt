@@ -12,7 +12,7 @@ use Rattle.room_store_cache.specs.Cache.{AreRowsOf}
 use Rattle.room_store_cache.specs.IncidentViews.{AreIncidentViewsOf}
 use Rattle.room_store_cache.specs.RecentIncidents.{AreRecent}
 use Rattle.room_store_cache.specs.ShownLists.{AreShownListsOf}
-use Rattle.room_store_cache.specs.declared.beside_fleet.BesideFleet.{BesideFleet}
+use Rattle.room_store_cache.specs.declared.history_rows.HistoryRows.{HistoryRows}
 use Rattle.room_store_cache.specs.declared.cache.Cache.{Cache}
 use Rattle.room_store_reads.specs.declared.working_rows.FleetParts.{FleetParts}
 use Rattle.room_store_reads.specs.declared.working_rows.Work.{Work}
@@ -36,7 +36,7 @@ is_turn None t = false
 is_turn (Some k) t = is_eq (numbered_cmp k (turn_key t))
 
 -- there are no rows but the fleet's
-pub record IsOfFleet (x : BesideFleet) : Type 0 where
+pub record IsOfFleet (x : HistoryRows) : Type 0 where
   pub incidents : x.incidents ≡ []
   pub calls : x.calls ≡ []
   pub turns : x.turns ≡ []

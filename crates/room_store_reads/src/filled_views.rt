@@ -2,7 +2,7 @@
 ghost use Rattle.std.specs.Prelude.{◌≡◌, ℕ};
 ghost use Rattle.room_types.specs.declared.asks.Ask.{Ask as AskModel};
 ghost use Rattle.room_model.specs.Room.{IsInOrder, Room};
-ghost use Rattle.room_store_cache.specs.BesideFleet.{IsBesideFleet};
+ghost use Rattle.room_store_cache.specs.HistoryRows.{AreHistoryRows};
 ghost use Rattle.room_store_cache.specs.IncidentViews.{AreIncidentViewsOf};
 ghost use Rattle.room_store_cache.specs.QueueViews.{AreQueueViewsOf};
 ghost use Rattle.room_store_cache.specs.ShownLists.{AreShownListsOf};
@@ -10,8 +10,8 @@ ghost use Rattle.room_store_reads.specs.RequestReads.{Selects};
 
 use crate::request_reads::{Incidents, Reads, Reports};
 use room_place::plans::DivisionNumber;
-use room_store_cache::beside_fleet::BesideFleet;
 use room_store_cache::cache::Cache;
+use room_store_cache::history_rows::HistoryRows;
 use std::alloc::Global;
 
 /// Keeps what a queue or a list shows, or the one incident that was named, where it isn't known.
@@ -20,20 +20,20 @@ pub(crate) fn fill_views(
     cache: &mut Cache,
     division: DivisionNumber,
     reads: &Reads,
-    rows: &BesideFleet,
+    rows: &HistoryRows,
 )
     ensures queue_views { (room : Room) (ask : AskModel) (at : ℕ) → Selects division ask reads.now
-        → IsBesideFleet division ask at room rows.now
+        → AreHistoryRows division ask at room rows.now
         → AreQueueViewsOf cache.old.queue_views.kept.items room
         → AreQueueViewsOf cache.new.queue_views.kept.items room }
     ensures incident_views { (room : Room) (ask : AskModel) (at : ℕ) → IsInOrder room
         → Selects division ask reads.now
-        → IsBesideFleet division ask at room rows.now
+        → AreHistoryRows division ask at room rows.now
         → AreIncidentViewsOf cache.old.incident_views.kept.items room
         → AreIncidentViewsOf cache.new.incident_views.kept.items room }
     ensures shown_lists { (room : Room) (ask : AskModel) (at : ℕ) → IsInOrder room
         → Selects division ask reads.now
-        → IsBesideFleet division ask at room rows.now
+        → AreHistoryRows division ask at room rows.now
         → AreShownListsOf cache.old.shown_lists.kept.items room
         → AreShownListsOf cache.new.shown_lists.kept.items room }
     ensures fleet { cache.new.fleet ≡ cache.old.fleet }

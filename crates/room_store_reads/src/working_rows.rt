@@ -9,7 +9,7 @@ ghost use Rattle.room_model.specs.Room.{IsInOrder, Room};
 ghost use Rattle.room_model.specs.RoomSlices.{room_of};
 ghost use Rattle.room_model.specs.WorkingRows.{is_last_turn, working};
 ghost use Rattle.room_tables_schema.specs.FileConnections.{HasRoomSchema, StandsOpen};
-ghost use Rattle.room_store_cache.specs.BesideFleet.{IsBesideFleet};
+ghost use Rattle.room_store_cache.specs.HistoryRows.{AreHistoryRows};
 ghost use Rattle.room_store_cache.specs.Cache.{AreRowsOf};
 ghost use Rattle.room_store_cache.specs.IncidentNumbers.{contains};
 ghost use Rattle.room_store_reads.specs.KnownParts.{IsKnownPart};
@@ -26,10 +26,10 @@ use crate::request_reads::{Reads, Reports, Turns};
 use crate::row_unions::add_all;
 use crate::selections::{load_one, owned_row, part_of};
 use room_place::plans::DivisionNumber;
-use room_store_cache::beside_fleet::BesideFleet;
 use room_store_cache::cache::Cache;
 use room_store_cache::cached_rows::own_rows;
 use room_store_cache::fleets::FleetRows;
+use room_store_cache::history_rows::HistoryRows;
 use room_tables::report_table::reports_of;
 use room_tables_schema::database_faults::Fault;
 use room_types::callsign::Callsign;
@@ -45,19 +45,19 @@ use std::alloc::Global;
 
 /// What a request of a division at a moment reads beside the fleet: what its desk asks, or a call
 /// that is placed in it. The next request knows what this one read of incidents.
-pub fn load_beside_fleet<S: Alter>(
+pub fn load_history_rows<S: Alter>(
     alloc: Global,
     conn: &mut Connection<S>,
     division: DivisionNumber,
     reads: &Reads,
     at: Moment,
     cache: &mut Cache,
-) -> Result<BesideFleet, Fault>
+) -> Result<HistoryRows, Fault>
     requires room { HasRoomSchema S.Store conn.old }
     requires open { StandsOpen S.Store conn.old }
     ensures rows { Finds S.Store conn.old conn.new result (λ room x. (ask : AskModel)
         → IsInOrder room → AreKnown cache.old room → Selects division ask reads.now
-        → IsBesideFleet division ask at room x × AreKnown cache.new room) }
+        → AreHistoryRows division ask at room x × AreKnown cache.new room) }
     ensures fleet { cache.new.fleet ≡ cache.old.fleet }
     ensures reads { ReadsOnly S.Store conn.old conn.new result }
 {
@@ -66,7 +66,7 @@ pub fn load_beside_fleet<S: Alter>(
     }
     let incidents = load_incidents(alloc, conn, division, &reads.incidents, at, cache)?;
     let work = load_work(alloc, conn, division, reads, cache, &incidents)?;
-    let rows = BesideFleet {
+    let rows = HistoryRows {
         incidents,
         calls: work.calls,
         turns: work.turns,
@@ -84,12 +84,12 @@ pub fn working_slice<'a>(
     division: DivisionNumber,
     reads: &Reads,
     fleet: &'a FleetRows,
-    beside: BesideFleet,
+    beside: HistoryRows,
 ) -> Result<Slice<'a>, Fault>
     ensures division { IfOk result (λ x. x.division ≡ division) }
     ensures rows { IfOk result (λ x. (room : Room) (ask : AskModel) (at : ℕ) → IsInOrder room
         → AreRowsOf fleet.now room → Selects division ask reads.now
-        → IsBesideFleet division ask at room beside
+        → AreHistoryRows division ask at room beside
         → room_of room.plan x.rows ≡ working division ask at room) }
 {
     let parts = fleet_parts(alloc, division, reads, fleet)?;
@@ -144,10 +144,10 @@ fn fleet_parts<'a>(
 }
 
 // No rows beside the fleet. It takes no memory.
-fn no_rows(alloc: Global) -> BesideFleet
+fn no_rows(alloc: Global) -> HistoryRows
     ensures { IsOfFleet result }
 {
-    BesideFleet {
+    HistoryRows {
         incidents: Rows::new(alloc),
         calls: Rows::new(alloc),
         turns: Rows::new(alloc),

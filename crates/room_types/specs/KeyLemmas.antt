@@ -1,13 +1,17 @@
 -- Lemmas: the orders of keys are total, and distinguish all keys.
-use Rattle.std.proofs.Common.{◌≡◌, ℕ, ap, refl, Option, Some, None}
+use Rattle.std.proofs.Common.{◌≡◌, ℕ, ap, refl, sym, ◌∙◌, Option, Some, None}
+use Rattle.std.specs.Prelude.{◌==◌, if◌then◌else◌}
 use Rattle.std.specs.declared.cmp.Ordering.TheVariants.{Less, Equal}
 use Rattle.std.specs.Cmp.{IsTotalOrder}
 use Rattle.std.specs.Ordering.{nat_cmp, ordering_then, ordering_reverse}
 use Rattle.std.proofs.lemmas.Cmp.{nat_cmp_total, nat_list_cmp_total, on_total, then_total}
 use Rattle.std.proofs.lemmas.Map.Lookups.{CmpEqualImpliesEq, exact_unsigned, exact_bytes}
 use Rattle.std.proofs.lemmas.Map.Lookups.{exact_pairs}
+use Rattle.room_types.specs.Ranks.{rank_cmp, rank_number}
 use Rattle.room_types.specs.Texts.{Callsign}
 use Rattle.room_types.specs.declared.answers.QueueEntry.{QueueEntry}
+use Rattle.room_types.specs.declared.ranks.Rank.{Rank}
+use Rattle.room_types.specs.declared.ranks.Rank.TheVariants as rank
 use Rattle.room_types.specs.Keys.{callsign_cmp, pair_cmp, numbered_cmp, option_callsign_cmp}
 use Rattle.room_types.specs.Keys.{entry_cmp}
 
@@ -67,18 +71,40 @@ exact_options None (Some b) e = cc
 exact_options (Some a) None e = cc
 exact_options (Some a) (Some b) e = ap Some (exact_callsigns a b e)
 
+-- the rank of a number of 1 to 8
+abbrev rank_at : ℕ → Rank
+rank_at n =
+    if n == 1 then rank.Unserved else if n == 2 then rank.Unacknowledged
+    else if n == 3 then rank.LateForScene else if n == 4 then rank.OutOfTurn
+    else if n == 5 then rank.Overdue else if n == 6 then rank.ShiftOver
+    else if n == 7 then rank.Uncovered else rank.Unanswered
+
+numbered : (r : Rank) → rank_at (rank_number r) ≡ r
+numbered rank.Unserved = refl
+numbered rank.Unacknowledged = refl
+numbered rank.LateForScene = refl
+numbered rank.OutOfTurn = refl
+numbered rank.Overdue = refl
+numbered rank.ShiftOver = refl
+numbered rank.Uncovered = refl
+numbered rank.Unanswered = refl
+
+pub exact_ranks : CmpEqualImpliesEq rank_cmp
+exact_ranks a b e =
+    sym (numbered a) ∙ (ap rank_at (exact_unsigned (rank_number a) (rank_number b) e) ∙ numbered b)
+
 pub entries_total : IsTotalOrder entry_cmp
-entries_total = then_total (on_total (λ (e : QueueEntry). e.rank) nat_cmp_total)
+entries_total = then_total (on_total (λ (e : QueueEntry). rank_number e.rank) nat_cmp_total)
     (then_total (on_total (λ (e : QueueEntry). e.since) nat_cmp_total)
     (then_total (on_total (λ (e : QueueEntry). e.number) nat_cmp_total)
     (on_total (λ (e : QueueEntry). e.callsign) options_total)))
 
 pub exact_entries : CmpEqualImpliesEq entry_cmp
 exact_entries a b h =
-    ap (λ (p : ℕ × (ℕ × (ℕ × Option Callsign))).
+    ap (λ (p : Rank × (ℕ × (ℕ × Option Callsign))).
     record { rank = p.0; since = p.1.0; number = p.1.1.0; callsign = p.1.1.1 })
-    (exact_pairs nat_cmp (λ (x y : ℕ × (ℕ × Option Callsign)). ordering_then (nat_cmp x.0 y.0)
-    (ordering_then (nat_cmp x.1.0 y.1.0) (option_callsign_cmp x.1.1 y.1.1))) exact_unsigned
+    (exact_pairs rank_cmp (λ (x y : ℕ × (ℕ × Option Callsign)). ordering_then (nat_cmp x.0 y.0)
+    (ordering_then (nat_cmp x.1.0 y.1.0) (option_callsign_cmp x.1.1 y.1.1))) exact_ranks
     (exact_pairs nat_cmp (λ (x y : ℕ × Option Callsign). ordering_then (nat_cmp x.0 y.0)
     (option_callsign_cmp x.1 y.1)) exact_unsigned
     (exact_pairs nat_cmp option_callsign_cmp exact_unsigned exact_options))

@@ -4,6 +4,7 @@ use Rattle.std.specs.declared.cmp.Ordering.{Ordering}
 use Rattle.std.specs.declared.cmp.Ordering.TheVariants.{Less, Equal, Greater}
 use Rattle.std.specs.Ordering.{nat_cmp, ordering_then, is_eq}
 use Rattle.std.specs.Cmp.Lexicographic.{slice_cmp}
+use Rattle.room_types.specs.Ranks.{rank_cmp}
 use Rattle.room_types.specs.Texts.{Callsign}
 use Rattle.room_types.specs.declared.answers.QueueEntry.{QueueEntry}
 use Rattle.room_types.specs.declared.tables.Division.{Division}
@@ -29,7 +30,7 @@ option_callsign_cmp (Some c) (Some e) = callsign_cmp c e
 
 -- by rank, since, number and callsign
 abbrev pub entry_cmp : QueueEntry → QueueEntry → Ordering
-entry_cmp a b = ordering_then (nat_cmp a.rank b.rank)
+entry_cmp a b = ordering_then (rank_cmp a.rank b.rank)
     (ordering_then (nat_cmp a.since b.since)
     (ordering_then (nat_cmp a.number b.number) (option_callsign_cmp a.callsign b.callsign)))
 

@@ -6,6 +6,7 @@ pub mod KeyLemmas
 pub mod Keys
 pub mod Needs
 pub mod Numerals
+pub mod Ranks
 pub mod RefusalStatuses
 pub mod SentVehicles
 pub mod Slices

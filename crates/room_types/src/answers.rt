@@ -4,7 +4,9 @@ ghost use Rattle.std.specs.Prelude.{◌≡◌, List, [], ◌∷◌, ◌++◌, le
 use crate::callsign::Callsign;
 use crate::codes::{Kind, Outcome, Status};
 use crate::needs::{Counts, Needs};
+use crate::note::Note;
 use crate::numbers::{Class, Cover, LastNumber, Moment, Number, PointNumber};
+use crate::ranks::Rank;
 use crate::tables::{Assignment, Call, Incident, Loan, Offer, Report, Turn};
 use room_place::places::Place;
 use room_place::plans::DivisionNumber;
@@ -134,15 +136,25 @@ pub struct PointLine {
 /// callsign.
 #[derive(Clone, Copy, PartialEq, Eq, PartialOrd, Ord)]
 pub struct QueueEntry {
-    /// 1 to 8, by what it is about.
-    pub rank: u8,
+    pub rank: Rank,
     /// The moment that it counts from.
     pub since: Moment,
-    /// Of an incident, a report, a point or the other division, by rank; 0 for a shift that is
-    /// over.
+    /// Of what the rank says.
     pub number: u32,
     /// The vehicle that it is about, if any.
     pub callsign: Option<Callsign>,
+}
+
+/// A crew's order, with what is known of its incident now.
+#[derive(Drop)]
+pub struct Job {
+    pub order: Assignment,
+    pub post: Option<PointNumber>,
+    pub status: Status,
+    /// The incident's, which a later call or a merge may have changed since the order.
+    pub class: Class,
+    /// The notes of the calls that belong to the incident, in the order of their keys.
+    pub notes: Listed<Note>,
 }
 
 /// An incident of a day, with the seconds from its opening to its first order, if it had one.
@@ -188,6 +200,7 @@ pub enum Answer {
     Times(Times),
     /// The vehicle's order, its post and its status.
     Order(Option<Assignment>, Option<PointNumber>, Status),
+    Job(Job),
     /// The report's number, what became of it, and the status after it.
     Reported(Number, Outcome, Status),
     /// The greatest number of the crew's reports, and of its orders; 0 where there is none.

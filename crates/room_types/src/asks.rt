@@ -95,6 +95,8 @@ pub enum Ask {
     /// day of 1970 may begin before it in UTC.
     Times(i64, i64),
     Order,
+    /// The order, with its incident's class and the notes of its calls.
+    Job,
     Report(Press),
     /// The last numbers of who asks: a crew or a position.
     Last,

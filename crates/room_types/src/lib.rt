@@ -13,6 +13,7 @@ pub mod link_limits;
 pub mod needs;
 pub mod note;
 pub mod numbers;
+pub mod ranks;
 pub mod refusal_statuses;
 pub mod row_keys;
 pub mod rows;

@@ -1,15 +1,14 @@
 //! By which key each row is kept, and which divisions own it.
-ghost use Rattle.std.specs.Prelude.{◌≡◌, true};
+ghost use Rattle.std.specs.Prelude.{◌≡◌};
 ghost use Rattle.room_types.specs.Keys.{is_party, division_key, incident_key, call_key};
 ghost use Rattle.room_types.specs.Keys.{vehicle_key, turn_key, assignment_key, point_key, loan_key};
-ghost use Rattle.room_types.specs.Keys.{offer_key, report_key, entry_key, owns_division};
+ghost use Rattle.room_types.specs.Keys.{offer_key, report_key, owns_division};
 ghost use Rattle.room_types.specs.Keys.{owns_incident, owns_call, owns_vehicle, owns_turn};
 ghost use Rattle.room_types.specs.Keys.{owns_assignment, owns_point, owns_loan, owns_offer};
 ghost use Rattle.room_types.specs.Keys.{owns_report};
 ghost use Rattle.room_types.specs.KeyLemmas.{exact_callsigns, exact_pair, exact_numbered};
-ghost use Rattle.room_types.specs.KeyLemmas.{exact_number, exact_entries};
+ghost use Rattle.room_types.specs.KeyLemmas.{exact_number};
 
-use crate::answers::QueueEntry;
 use crate::callsign::Callsign;
 use crate::numbers::{Number, PointNumber, PositionNumber};
 use crate::rows::Row;
@@ -202,24 +201,5 @@ impl Row for Report {
 
     fn owned_by(&self, division: DivisionNumber) -> bool {
         self.division == division
-    }
-}
-
-/// An entry is its own key, so that rows of entries are a set in order. It is not one division's.
-impl Row for QueueEntry {
-    type Key = QueueEntry;
-
-    ghost key_of = { entry_key };
-
-    ghost owned = { λ d e. true };
-
-    ghost exact = { exact_entries };
-
-    fn key(&self) -> QueueEntry {
-        *self
-    }
-
-    fn owned_by(&self, _division: DivisionNumber) -> bool {
-        true
     }
 }

@@ -13,5 +13,5 @@ returns g c =
       between = record { printed = _; done = _ };
       found = Ok c.in_ok-text.text;
       is = (tt, c.in_ok-text.ensures.done, refl);
-      rest = rw (c.new-sheet.ensures, c.as_slice.ensures.value) at c.replan_as.ensures;
+      rest = rw (c.new-sheet.ensures, c.as_slice.ensures.value) at c.replan_text.ensures;
     }

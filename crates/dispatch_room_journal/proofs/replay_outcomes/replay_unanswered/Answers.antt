@@ -1,5 +1,5 @@
 use Rattle.std.proofs.Common.{◌≡◌, refl, inl, subst}
-use Rattle.room_model.specs.declared.digests.Head.{Head}
+use Rattle.room_model.specs.declared.digests.StartDigest.{StartDigest}
 use Rattle.dispatch_room_journal.specs.Entries.{room}
 use Rattle.dispatch_room_journal.proofs.FaultLemmas.{unless_after}
 use Rattle.dispatch_room_journal.proofs.StepLemmas.{left_turn, caught_turn, stops_open}
@@ -12,7 +12,7 @@ returns-in-Ok-true-clause-turn g c = (
   λ status is. absurd (cc is),
   λ head is trust terminals held stood.
       let same : c.args.head.now ≡ head = cc is in
-      subst (λ (h : Head). IsHeadOf (digits_of g.M.Digested.digest_of (g.M.Room.zone c.args.room.now)) h terminals held)
+      subst (λ (h : StartDigest). IsHeadOf (digits_of g.M.Digested.digest_of (g.M.Room.zone c.args.room.now)) h terminals held)
       same
       ((c.in-Ok-true.ensures.says trust terminals held stood).0 c.in-Ok-true.field-0-test),
 )

@@ -31,10 +31,10 @@ returns-in-End-clause-turn g c =
       Appends-none (g.O.Write.contents c.args.writer.now.output.now),
     )
 
-pub returns-in-Head-clause-turn : goal.returns-in-Head-clause-turn
-returns-in-Head-clause-turn g c =
+pub returns-in-StartDigest-clause-turn : goal.returns-in-StartDigest-clause-turn
+returns-in-StartDigest-clause-turn g c =
     let x = head_turn _ _ (digits_of g.M.Digested.digest_of (g.M.Room.zone c.args.room.now)) _ _ _ _ _ None IsPlayed
-    (λ head. tt) _ _ _ _ c.note_head.ensures _ c.in-Head.is c.in-Ok.ensures.next in (
+    (λ head. tt) _ _ _ _ c.note_head.ensures _ c.in-StartDigest.is c.in-Ok.ensures.next in (
       compared x.0 ∷ [],
       x.1,
       x.2,

@@ -29,7 +29,7 @@ returns-then-course-clause-played g c =
       trusted = played.trusted;
       replayed = λ unasked. absurd (not_both _ unasked c.if-course.true);
       answered =
-          λ asked. record { write_failed = _; result = c.in_ok-came.came; is = played.legs; ends = c.answered.ensures };
+          λ asked. record { write_failed = _; result = c.in_ok-came.came; is = played.segments; ends = c.answered.ensures };
     }
 
 pub returns-in-Ok-clause-played : goal.returns-in-Ok-clause-played
@@ -42,7 +42,7 @@ returns-in-Ok-clause-played g c =
           λ unasked. record {
             write_failed = _;
             result = Ok c.in-Ok.replayed;
-            is = played.legs;
+            is = played.segments;
             printed = c.print_replayed.ensures;
           };
       answered = λ asked. absurd (not_both _ c.if-course.false asked);
@@ -55,6 +55,6 @@ returns-in-Err-clause-played g c =
       ready = played.ready;
       trusted = played.trusted;
       replayed = λ unasked.
-          record { write_failed = _; result = Err c.in-Err.stopped; is = played.legs; printed = c.failure_of.ensures };
+          record { write_failed = _; result = Err c.in-Err.stopped; is = played.segments; printed = c.failure_of.ensures };
       answered = λ asked. absurd (not_both _ c.if-course.false asked);
     }

@@ -7,14 +7,14 @@ use Rattle.dispatch_room_exit.specs.declared.exit_status.Failure.TheVariants.{Jo
 use Rattle.dispatch_room_exit.specs.declared.exit_status.Failure.TheVariants.{Storage}
 use Rattle.room_http_messages.proofs.StreamLemmas.{Appends-none}
 use Rattle.room_model.specs.Rooms.{IsUnavailable}
-use Rattle.room_model.specs.declared.digests.Head.{Head}
+use Rattle.room_model.specs.declared.digests.StartDigest.{StartDigest}
 use Rattle.room_model.specs.declared.digests.Version.TheVariants.{Second}
 use Rattle.room_types.specs.declared.refusal_statuses.Refusal.{Refusal}
 use Rattle.dispatch_room_serving.proofs.ConnectionLaws.{looks_same}
 use Rattle.dispatch_room_serving.proofs.served_room.announce.Goals as goal
 
 -- the head that is announced
-abbrev second : List ℕ → Head
+abbrev second : List ℕ → StartDigest
 second digits = record { version = Second; digits = digits }
 
 -- what is kept where the digest is wanted, and where it is not

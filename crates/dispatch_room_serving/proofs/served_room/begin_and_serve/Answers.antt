@@ -5,7 +5,7 @@ use Rattle.dispatch_room_exit.specs.declared.exit_status.Failure.{Failure}
 use Rattle.dispatch_room_exit.specs.declared.exit_status.Failure.TheVariants.{Journal}
 use Rattle.room_store.specs.declared.store.Store.{Store}
 use Rattle.sqlite_trees.specs.declared.store.Store.{Ghosts}
-use Rattle.room_model.specs.declared.digests.Head.{Head}
+use Rattle.room_model.specs.declared.digests.StartDigest.{StartDigest}
 use Rattle.dispatch_room_serving.specs.ServedRoom.{Announces, KeepsHead, LooksOnly}
 use Rattle.dispatch_room_serving.proofs.served_room.begin_and_serve.Goals as goal
 
@@ -16,7 +16,7 @@ same_failed : (result : Result (Unit {0}) Failure)
 same_failed (Ok stated) well old new is = is
 same_failed (Err fault) well old new is = absurd (well fault refl)
 
-module _ {S : Type 0} (g : Ghosts S) (wants : Bool) (begun : Head → List ℕ) (old new : Store S)
+module _ {S : Type 0} (g : Ghosts S) (wants : Bool) (begun : StartDigest → List ℕ) (old new : Store S)
     (kept keeps : Option (List ℕ)) where
   announced : (result : Result (Unit {0}) Failure) → ((fault : Failure) → result ≡ Err fault → ⊥)
       → Announces g wants begun old new kept keeps result

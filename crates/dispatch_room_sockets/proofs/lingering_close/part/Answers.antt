@@ -8,7 +8,7 @@ pub returns-then-shut-clause-parted : goal.returns-then-shut-clause-parted
 returns-then-shut-clause-parted g c =
     let could : c.shut.result ≡ true = search rules in
     let drained = c.drain.ensures.drained in
-    let until : drains_until (g.P.Parting.is_open c.args.peer.now) (g.P.Parting.answered c.args.peer.now)
+    let until : drains_until (g.P.Closing.is_open c.args.peer.now) (g.P.Closing.answered c.args.peer.now)
     ≡ Some c.in-Some.moment = cc in (
       shut true ∷ drained.0,
       Grows-more _ _ _ _ _ (rw could at c.shut.ensures.done) drained.1,

@@ -15,7 +15,8 @@ returns-then-is_endless g c =
       between = record { printed = _; done = _ };
       found = Ok c.in_ok-journal.journal;
       is = c.in_ok-journal.ensures.opens _;
-      rest = rw endless c.serve_at_door.ensures;
+      rest = rw endless
+          (c.door_of.result, c.door_of.ensures.door, rw c.door_of.ensures.deaf at c.serve_at.ensures);
     }
 
 pub returns-else-is_endless : goal.returns-else-is_endless
@@ -25,5 +26,9 @@ returns-else-is_endless g c =
       between = record { printed = _; done = _ };
       found = Ok c.in_ok-journal.journal;
       is = c.in_ok-journal.ensures.opens _;
-      rest = rw counted c.serve_at_address.ensures;
+      rest = rw counted (
+        c.address_of.result,
+        c.address_of.ensures.address,
+        rw c.address_of.ensures.deaf at c.serve_at-else-is_endless.ensures,
+      );
     }

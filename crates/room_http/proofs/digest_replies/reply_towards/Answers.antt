@@ -10,9 +10,9 @@ use Rattle.room_http_messages.specs.Messages.{WholeMessage}
 use Rattle.room_http.specs.declared.settings.HttpSettings.{HttpSettings}
 use Rattle.room_model.specs.Digests.{DigitsOf, IsHeadOf, digits_of}
 use Rattle.room_model.specs.Rooms.{Step}
-use Rattle.room_model.specs.declared.digests.Head.{Head}
-use Rattle.room_model.specs.declared.digests.Miss.{Miss}
-use Rattle.room_model.specs.declared.digests.Miss.TheVariants.{OtherDigest}
+use Rattle.room_model.specs.declared.digests.StartDigest.{StartDigest}
+use Rattle.room_model.specs.declared.digests.DigestMismatch.{DigestMismatch}
+use Rattle.room_model.specs.declared.digests.DigestMismatch.TheVariants.{OtherDigest}
 use Rattle.room_http.specs.declared.arrivals.Arrived.{Arrived}
 use Rattle.room_http.specs.declared.arrivals.Arrived.TheVariants.{Message, Refused}
 use Rattle.room_http.specs.Arrivals.{Arrival, IsShown, message, refused}
@@ -25,7 +25,7 @@ use Rattle.room_http.proofs.digest_replies.reply_towards.Goals as goal
 -- what is refused in the place of a message leaves the room at its digest
 stays_elsewhere : (step : Step) (setting : HttpSettings) (digits_of : DigitsOf)
     (terminals : List Terminal) (room : Room) (arrived : Arrived) (r : Refusal) (without : _)
-    (at : ℕ) (head : Head) (o : Arrival) → arrived ≡ Refused r without → IsShown arrived o
+    (at : ℕ) (head : StartDigest) (o : Arrival) → arrived ≡ Refused r without → IsShown arrived o
     → (¬ (IsHeadOf digits_of head terminals room))
     → LeadsToAnother step setting digits_of terminals room (o, at) head
 stays_elsewhere step setting digits_of terminals room arrived r without at head (message m) is shown elsewhere =
@@ -44,7 +44,7 @@ finds setting terminals arrived given bytes at found (message m) is shown asks =
 finds setting terminals arrived given bytes at found (refused s other) is shown asks = absurd (rw is at shown)
 
 -- what the room did with it is reported
-says : {A N D R S Y : Type 0} {B X : Vec ℕ A → Type 0} (r : Result (Vec ℕ A) Miss)
+says : {A N D R S Y : Type 0} {B X : Vec ℕ A → Type 0} (r : Result (Vec ℕ A) DigestMismatch)
     → IfOk r B → OnOk r D → IfErr r (λ e. e ≡ OtherDigest → N) → OnErr r R
     → ((bytes : Vec ℕ A) → B bytes → D → X bytes) → (R → S) → (N → Y)
     → MatchResult r X (λ e. S × (e ≡ OtherDigest → Y))

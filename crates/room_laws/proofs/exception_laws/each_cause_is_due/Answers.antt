@@ -8,8 +8,8 @@ use Rattle.room_model.proofs.Tests.{both_true, row_among}
 use Rattle.room_model.specs.Moments.{scene_limit}
 use Rattle.room_model.specs.Queries.{incident_of}
 use Rattle.room_laws.proofs.Causes.{due, incident_at, on_way, served_by, vehicle_here}
-use Rattle.room_laws.specs.Exceptions.{OutOfTurn, Overdue, ShiftOver, Slow, Unanswered, Uncovered}
-use Rattle.room_laws.specs.Exceptions.{Unread, Unserved}
+use Rattle.room_laws.specs.Exceptions.{OutOfTurn, Overdue, ShiftOver, LateForScene, Unanswered}
+use Rattle.room_laws.specs.Exceptions.{Uncovered, Unacknowledged, Unserved}
 use Rattle.room_laws.proofs.exception_laws.each_cause_is_due.Goals as goal
 
 pub returns-clause-incident : goal.returns-clause-incident
@@ -27,7 +27,7 @@ pub returns-clause-order : goal.returns-clause-order
 unfolding on_way
 returns-clause-order g d r v t formed there own mobilised turn unseen =
     let m = t.ordered + 61 in
-    due d m r formed (Unread t.incident v.callsign) (record {
+    due d m r formed (Unacknowledged t.incident v.callsign) (record {
       way = on_way d m r formed v t there (both_true _ _ (eq-eqb v.holder d own) mobilised) turn;
       unseen = unseen;
       late = lt-ltb _ _ (omega arith);
@@ -37,7 +37,7 @@ pub returns-clause-way : goal.returns-clause-way
 unfolding on_way incident_of
 returns-clause-way g d r v t i formed there own mobilised turn found =
     let m = i.opened + scene_limit i.class + 1 in
-    due d m r formed (Slow t.incident v.callsign) (record {
+    due d m r formed (LateForScene t.incident v.callsign) (record {
       way = on_way d m r formed v t there (both_true _ _ (eq-eqb v.holder d own) mobilised) turn;
       incident = i;
       found = found;

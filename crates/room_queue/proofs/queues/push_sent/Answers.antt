@@ -1,6 +1,6 @@
 use Rattle.std.proofs.Common.{ap, length, ◌++◌, ◌∙◌, ◌≤◌}
 use Rattle.std.specs.Prelude.{filter_map}
-use Rattle.room_model.specs.Queue.{exception, slow_turn, unread_turn}
+use Rattle.room_model.specs.Queue.{exception, late_turn, unacknowledged_turn}
 use Rattle.room_model.specs.RoomSlices.{unplanned}
 use Rattle.room_queue.specs.QueueEntries.{turn_ahead, unserved_seen}
 use Rattle.room_alloc.proofs.CandidateLaws.{drop_item}
@@ -25,8 +25,10 @@ loop-vehicle-preserved c =
     let at = c.args.at in
     let rest = drop_item s.vehicles c.as_slice-vehicles.result.now c.loop-vehicle.vehicle-index c.vehicle-item.result
     c.as_slice-vehicles.ensures.all c.loop-vehicle-test.true c.vehicle-item.is in
-    noted (λ v. unread_turn at v (turn_ahead d s v)) s.vehicles c.loop-vehicle.vehicle-index c.vehicle-item.result
-    c.unread.result c.loop-vehicle.seen.items c.push_entry-in-loop-vehicle.new.seen.items _ c.unread.ensures
+    noted (λ v. unacknowledged_turn at v (turn_ahead d s v)) s.vehicles c.loop-vehicle.vehicle-index
+    c.vehicle-item.result
+    c.unacknowledged.result c.loop-vehicle.seen.items c.push_entry-in-loop-vehicle.new.seen.items _
+    c.unacknowledged.ensures
     c.in_ok-push_entry-2.ensures rest c.loop-vehicle.invariant
 
 pub loop-vehicle-2-preserved : goal.loop-vehicle-2-preserved
@@ -37,9 +39,9 @@ loop-vehicle-2-preserved c =
     let rest = drop_item s.vehicles c.as_slice-vehicles.result.now c.loop-vehicle-2.vehicle-index
     c.vehicle-item-in-loop-vehicle-2.result c.as_slice-vehicles.ensures.all c.loop-vehicle-2-test.true
     c.vehicle-item-in-loop-vehicle-2.is in
-    noted (λ v. slow_turn d at (unplanned s) v (turn_ahead d s v)) s.vehicles c.loop-vehicle-2.vehicle-index
-    c.vehicle-item-in-loop-vehicle-2.result c.slow.result c.loop-vehicle-2.seen.items
-    c.push_entry-in-loop-vehicle-2.new.seen.items _ c.slow.ensures c.in_ok-push_entry-3.ensures rest
+    noted (λ v. late_turn d at (unplanned s) v (turn_ahead d s v)) s.vehicles c.loop-vehicle-2.vehicle-index
+    c.vehicle-item-in-loop-vehicle-2.result c.late_for_scene.result c.loop-vehicle-2.seen.items
+    c.push_entry-in-loop-vehicle-2.new.seen.items _ c.late_for_scene.ensures c.in_ok-push_entry-3.ensures rest
     c.loop-vehicle-2.invariant
 
 pub loop-report-preserved : goal.loop-report-preserved
@@ -64,14 +66,14 @@ returns c =
     c.loop-incident.seen.items past0 c.loop-incident.invariant in
     let past1 : length s.vehicles
     ≤ c.loop-vehicle.vehicle-index = rw c.as_slice-vehicles.ensures.all at c.loop-vehicle-test.false in
-    let e1 = walked (λ v. unread_turn at v (turn_ahead d s v)) s.vehicles _ c.loop-incident.seen.items
+    let e1 = walked (λ v. unacknowledged_turn at v (turn_ahead d s v)) s.vehicles _ c.loop-incident.seen.items
     c.loop-vehicle.seen.items past1 c.loop-vehicle.invariant
-    ∙ ap (λ ys. ys ++ filter_map (λ v. unread_turn at v (turn_ahead d s v)) s.vehicles) e0 in
+    ∙ ap (λ ys. ys ++ filter_map (λ v. unacknowledged_turn at v (turn_ahead d s v)) s.vehicles) e0 in
     let past2 : length s.vehicles
     ≤ c.loop-vehicle-2.vehicle-index = rw c.as_slice-vehicles.ensures.all at c.loop-vehicle-2-test.false in
-    let e2 = walked (λ v. slow_turn d at (unplanned s) v (turn_ahead d s v)) s.vehicles _ c.loop-vehicle.seen.items
+    let e2 = walked (λ v. late_turn d at (unplanned s) v (turn_ahead d s v)) s.vehicles _ c.loop-vehicle.seen.items
     c.loop-vehicle-2.seen.items past2 c.loop-vehicle-2.invariant
-    ∙ ap (λ ys. ys ++ filter_map (λ v. slow_turn d at (unplanned s) v (turn_ahead d s v)) s.vehicles) e1 in
+    ∙ ap (λ ys. ys ++ filter_map (λ v. late_turn d at (unplanned s) v (turn_ahead d s v)) s.vehicles) e1 in
     let past3 : length s.reports
     ≤ c.loop-report.report-index = rw c.as_slice-report-items.ensures.all at c.loop-report-test.false in
     let e3 = walked (exception d) s.reports _ c.loop-vehicle-2.seen.items c.loop-report.seen.items past3

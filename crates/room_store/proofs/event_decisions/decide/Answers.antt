@@ -45,7 +45,8 @@ returns-in-Crew-clause-decided g c clean =
     IfOk-weaker (unless_unavailable c.for_crew.result) _ _ (λ x answered config room h.
     let fleet = c.in-Ok.ensures.known first config room h.stands h.cache.fleet in
     rw c.in-Crew.is
-    (answered config room (kept _ _ (c.in-Ok.ensures.reads.ok first) config room h.stands) h.formed fleet))
+    (answered config room (kept _ _ (c.in-Ok.ensures.reads.ok first) config room h.stands) h.formed fleet
+    (filled _ fleet h.cache)))
     (c.for_crew.ensures.decided clean)
 
 pub returns-in-Crew-clause-cache : goal.returns-in-Crew-clause-cache
@@ -54,8 +55,8 @@ returns-in-Crew-clause-cache g c clean =
     (arith, c.for_crew.ensures.reads.survives.clean) in
     IfOk-weaker (unless_unavailable c.for_crew.result) _ _ (λ x known config room h.
     let fleet = c.in-Ok.ensures.known first config room h.stands h.cache.fleet in
-    filled _ (known config room (kept _ _ (c.in-Ok.ensures.reads.ok first) config room h.stands) fleet) h.cache)
-    (c.for_crew.ensures.known clean)
+    known config room (kept _ _ (c.in-Ok.ensures.reads.ok first) config room h.stands) h.formed fleet
+    (filled _ fleet h.cache)) (c.for_crew.ensures.cache clean)
 
 pub returns-in-Crew-clause-reads : goal.returns-in-Crew-clause-reads
 returns-in-Crew-clause-reads g c =

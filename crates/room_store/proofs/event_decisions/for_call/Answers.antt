@@ -32,13 +32,13 @@ returns-in_default-division_of-clause-decided g c clean config room h _ _ _ form
 pub returns-in_default-division_of-clause-reads : goal.returns-in_default-division_of-clause-reads
 returns-in_default-division_of-clause-reads g c = succeeds (looked c.in-Ok.ensures.reads)
 
-pub load_beside_fleet-requires-clause-open : goal.load_beside_fleet-requires-clause-open
-load_beside_fleet-requires-clause-open g c clean = (c.in-Ok.ensures.reads.ok clean).0.is_open
+pub load_history_rows-requires-clause-open : goal.load_history_rows-requires-clause-open
+load_history_rows-requires-clause-open g c clean = (c.in-Ok.ensures.reads.ok clean).0.is_open
 
 pub returns-clause-decided : goal.returns-clause-decided
 returns-clause-decided g c clean =
     let first : IsClean g.S.Store c.row_at.new.conn = omega
-    (arith, c.load_beside_fleet.ensures.reads.survives.clean) in
+    (arith, c.load_history_rows.ensures.reads.survives.clean) in
     IfOk-weaker (unless_unavailable c.decide_call-decision.result) _ _
     (λ x answered config room h position at form formed planned made asked fleet is.
     let call = c.args.call.now in
@@ -46,7 +46,7 @@ returns-clause-decided g c clean =
     let row = c.in-Ok.ensures.row first config room h in
     let ask = c.args.ask.now in
     let selects = c.reads_of-reads.ensures in
-    let read = c.in-Ok-load_beside_fleet.ensures.rows clean config room
+    let read = c.in-Ok-load_history_rows.ensures.rows clean config room
     (kept _ _ (c.in-Ok.ensures.reads.ok first) config room h) ask formed.order (all_known fleet is) selects in
     let rows = c.in-Ok-working_slice.ensures.rows room ask call.at formed.order (rw c.get.ensures read.1.rows) selects
     read.0 in
@@ -63,17 +63,17 @@ returns-clause-decided g c clean =
 pub returns-clause-cache : goal.returns-clause-cache
 returns-clause-cache g c clean =
     let first : IsClean g.S.Store c.row_at.new.conn = omega
-    (arith, c.load_beside_fleet.ensures.reads.survives.clean) in
+    (arith, c.load_history_rows.ensures.reads.survives.clean) in
     says c.decide_call-decision.result _ (λ config room h formed fleet is.
-    let read = c.in-Ok-load_beside_fleet.ensures.rows clean config room
+    let read = c.in-Ok-load_history_rows.ensures.rows clean config room
     (kept _ _ (c.in-Ok.ensures.reads.ok first) config room h) c.args.ask.now formed.order (all_known fleet is)
     c.reads_of-reads.ensures in
-    still_known fleet read.1 c.load_beside_fleet.ensures.fleet)
+    still_known fleet read.1 c.load_history_rows.ensures.fleet)
 
 pub returns-clause-reads : goal.returns-clause-reads
 returns-clause-reads g c =
     ends_any (unless_unavailable c.decide_call-decision.result)
-    (and (looked c.in-Ok.ensures.reads) c.in-Ok-load_beside_fleet.ensures.reads)
+    (and (looked c.in-Ok.ensures.reads) c.in-Ok-load_history_rows.ensures.reads)
 
 pub returns-in-Err-clause-decided : goal.returns-in-Err-clause-decided
 returns-in-Err-clause-decided g c clean = unsaid c.in-Err.fault c.refusal_of.ensures _
@@ -84,19 +84,19 @@ returns-in-Err-clause-cache g c clean = unsaid c.in-Err.fault c.refusal_of.ensur
 pub returns-in-Err-clause-reads : goal.returns-in-Err-clause-reads
 returns-in-Err-clause-reads g c = fails (failed c.in-Err.fault c.refusal_of.ensures) c.in-Err.ensures.reads
 
-pub returns-in-Err-load_beside_fleet-clause-decided : goal.returns-in-Err-load_beside_fleet-clause-decided
-returns-in-Err-load_beside_fleet-clause-decided g c clean =
-    unsaid c.in-Err-load_beside_fleet.fault c.refusal_of-in-Err-load_beside_fleet.ensures _
+pub returns-in-Err-load_history_rows-clause-decided : goal.returns-in-Err-load_history_rows-clause-decided
+returns-in-Err-load_history_rows-clause-decided g c clean =
+    unsaid c.in-Err-load_history_rows.fault c.refusal_of-in-Err-load_history_rows.ensures _
 
-pub returns-in-Err-load_beside_fleet-clause-cache : goal.returns-in-Err-load_beside_fleet-clause-cache
-returns-in-Err-load_beside_fleet-clause-cache g c clean =
-    unsaid c.in-Err-load_beside_fleet.fault c.refusal_of-in-Err-load_beside_fleet.ensures _
+pub returns-in-Err-load_history_rows-clause-cache : goal.returns-in-Err-load_history_rows-clause-cache
+returns-in-Err-load_history_rows-clause-cache g c clean =
+    unsaid c.in-Err-load_history_rows.fault c.refusal_of-in-Err-load_history_rows.ensures _
 
-pub returns-in-Err-load_beside_fleet-clause-reads : goal.returns-in-Err-load_beside_fleet-clause-reads
-returns-in-Err-load_beside_fleet-clause-reads g c =
+pub returns-in-Err-load_history_rows-clause-reads : goal.returns-in-Err-load_history_rows-clause-reads
+returns-in-Err-load_history_rows-clause-reads g c =
     but (looked c.in-Ok.ensures.reads)
-    (failed c.in-Err-load_beside_fleet.fault c.refusal_of-in-Err-load_beside_fleet.ensures)
-    c.in-Err-load_beside_fleet.ensures.reads
+    (failed c.in-Err-load_history_rows.fault c.refusal_of-in-Err-load_history_rows.ensures)
+    c.in-Err-load_history_rows.ensures.reads
 
 pub returns-in-Err-working_slice-clause-decided : goal.returns-in-Err-working_slice-clause-decided
 returns-in-Err-working_slice-clause-decided g c clean =
@@ -108,4 +108,4 @@ returns-in-Err-working_slice-clause-cache g c clean =
 
 pub returns-in-Err-working_slice-clause-reads : goal.returns-in-Err-working_slice-clause-reads
 returns-in-Err-working_slice-clause-reads g c =
-    ends_any _ (and (looked c.in-Ok.ensures.reads) c.in-Ok-load_beside_fleet.ensures.reads)
+    ends_any _ (and (looked c.in-Ok.ensures.reads) c.in-Ok-load_history_rows.ensures.reads)

@@ -97,13 +97,13 @@ returns-in-Full-clause-rows c =
     rw (c.requires.chain, c.in-Full.is)
     (sym (one_row link kept c.in-Whole.size c.in-Whole.check (front_now link kept front whole.3) row))
 
-pub returns-in-Leg-clause-step : goal.returns-in-Leg-clause-step
-returns-in-Leg-clause-step c =
+pub returns-in-Segment-clause-step : goal.returns-in-Segment-clause-step
+returns-in-Segment-clause-step c =
     let kept = c.args.self.now.inbox in
     let size = c.in-Whole.size in
     let whole = (rw c.bytes.ensures.value at c.in-Whole.ensures) in
     let body = c.body_of.ensures ∙ ap (body_in size) c.bytes-in-Whole.ensures.value in
     let row = ap is_row (sym body) ∙ sym c.is_row.ensures ∙ c.if-not-is_row.false in
-    let stops = ap (λ r. stops_at r (body_in size kept)) c.in-Leg.is ∙ row in
+    let stops = ap (λ r. stops_at r (body_in size kept)) c.in-Segment.is ∙ row in
     let none = stopped c.args.reach c.args.link.now kept size c.in-Whole.check whole stops in
     rw (c.requires.chain, c.requires.none) (none, none)

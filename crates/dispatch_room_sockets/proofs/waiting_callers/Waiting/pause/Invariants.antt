@@ -13,13 +13,13 @@ invariant-loop-kept g l =
       bound : as_nanos l.pause ≤ 1000000000;
       least : Stands (as_nanos l.pause)
           (flat_map (waiter_limits l.now watched) (deque_iter_rest l.kept-iterator)
-          ++ map (leaver_limit l.now) l.self.leavers.items)
-          (limits l.now watched l.self.line.items l.self.leavers.items);
+          ++ map (leaver_limit l.now) l.self.closing_connections.items)
+          (limits l.now watched l.self.line.items l.self.closing_connections.items);
     }
 
 abbrev pub invariant-loop-leaver : goal.invariant-loop-leaver
 invariant-loop-leaver g l = record {
   bound : as_nanos l.pause ≤ 1000000000;
   least : Stands (as_nanos l.pause) (map (leaver_limit l.now) (deque_iter_rest l.leaver-iterator))
-      (limits l.now (g.E.Entrance.is_watched l.self.entrance) l.self.line.items l.self.leavers.items);
+      (limits l.now (g.E.Entrance.is_watched l.self.entrance) l.self.line.items l.self.closing_connections.items);
 }

@@ -6,8 +6,8 @@ pub returns-in-Some : goal.returns-in-Some
 returns-in-Some g c = record {
   before = c.now-now.result;
   shown = c.now-now.ensures;
-  in_time = rw c.look.ensures.leavers c.throw_away.ensures.in_time;
-  rest = rw c.look.ensures.leavers c.throw_away.ensures.rest;
+  in_time = rw c.look.ensures.closing_connections c.throw_away.ensures.in_time;
+  rest = rw c.look.ensures.closing_connections c.throw_away.ensures.rest;
   after = c.wait.result;
   noted = rw (c.look.ensures.waits, sym c.throw_away.ensures.waits) c.wait.ensures.waits;
   round =

@@ -8,3 +8,6 @@ returns-in-Incidents g c = rw c.in-Incidents.is c.write_object-in-Incidents.ensu
 
 pub returns-in-Incident : goal.returns-in-Incident
 returns-in-Incident g c = rw c.in-Incident.is c.write_json.ensures
+
+pub returns-in-Job : goal.returns-in-Job
+returns-in-Job g c = rw c.in-Job.is c.write_json-in-Job.ensures

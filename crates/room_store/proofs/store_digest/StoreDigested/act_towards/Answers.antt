@@ -2,7 +2,7 @@ use Rattle.std.proofs.Common.{Err, Ok, Result, ◌≡◌}
 use Rattle.std.proofs.lemmas.Result.{on_err_weaker}
 use Rattle.std.specs.Prelude.{MatchResult}
 use Rattle.room_tables_schema.proofs.ReadLaws.{any_err}
-use Rattle.room_model.specs.declared.digests.Miss.TheVariants.{OtherDigest}
+use Rattle.room_model.specs.declared.digests.DigestMismatch.TheVariants.{OtherDigest}
 use Rattle.room_store.proofs.KnownLaws.{knows_nothing}
 use Rattle.room_store.proofs.StoreLaws.{acted_left, err_both, room_left, settled_kept}
 use Rattle.room_store.proofs.store_digest.StoreDigested.act_towards.Goals as goal
