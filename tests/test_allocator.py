@@ -16,7 +16,7 @@ import time
 from browser import Unmet, of_module, until
 from pages import (PHONE, companion, nameless, repeated, sign_in, small_targets, time_of,
                    unseen_focus, weak_texts)
-from room import PATIENCE, TestCase, ask, made, message, serving, sql
+from room import PATIENCE, PATIENT, TestCase, ask, made, message, serving, sql
 
 NOW = 1795608000  # the moment of the played room: 25 November 2026, noon
 BROWSER = None
@@ -363,6 +363,35 @@ class Played(TestCase):
         BROWSER.press('Enter')
         self.check_comes('another refusal', lambda: words_of('.drawer .bad'),
                          "The vehicle's status does not allow this now. (5)")
+
+    def test_divert(self):
+        """A vehicle on its way is sent to the nearest other incident that lacks it by one request,
+        and back by one more; where it was sent there already, nothing is asked."""
+        one = vehicle('A1', 2, incident=3)
+        moved = [{'order': None, 'vehicle': 'A1'}, {'order': 8, 'vehicle': 'A1'}]
+        room = self.show(Lists(
+            {'POST /moves': (200, {'moves': moved})}, vehicles=[one],
+            incidents=[incident(3, needs=(2, 0, 0)), incident(4, place=(530100, 180000)),
+                       incident(5, place=(530200, 180000))]))
+        BROWSER.press('5', 'j')
+        until(lambda: BROWSER.is_shown('.drawer'))
+        BROWSER.press('Enter')
+        self.check_comes('what was done', lambda: words_of('.vehicles .said'),
+                         'A1 is sent to incident 4: order 8. u takes it back: divert A1 back to '
+                         'incident 3.')
+        one['incident'] = 4
+        refresh()
+        BROWSER.press('j')
+        until(lambda: BROWSER.is_shown('.drawer'))
+        BROWSER.type('4')
+        BROWSER.press('Enter')
+        self.check_comes('it was sent there', lambda: words_of('.vehicles .drawer .bad'),
+                         'A1 was sent to incident 4 already.')
+        BROWSER.press('Escape', 'u')
+        self.check_comes('taken back', lambda: [json.loads(it[1]) for it in posted(room)],
+                         [{'moves': [{'incident': None, 'vehicle': 'A1'},
+                                     {'incident': it, 'vehicle': 'A1'}]} for it in (4, 3)])
+        self.check('the path', {it[0] for it in posted(room)}, {'/moves'})
 
     def test_moved(self):
         """What acts at once does nothing where the list moved under the person's fingers."""
@@ -738,7 +767,7 @@ class Played(TestCase):
         shown = BROWSER.texts('#keys kbd')
         self.check('no keys of a loan', [it for it in 'rb' if it in shown], [])
         BROWSER.press('?')
-        wanted = ['Enter', *'gsnmcpdfxtlwaerboiuvh/?']
+        wanted = ['Enter', *'gjsnmcpdfxtlwaerboiuvh/?']
         self.check_comes('all keys', lambda: absent(wanted, '#help kbd'), [])
         BROWSER.press('Escape')
 
@@ -816,6 +845,20 @@ class Served(TestCase):
             self.check_borrowing()
             self.check_reports()
             self.check_real_incident()
+
+    def test_divert(self):
+        """A divert and back, from the lists to the tables, in a room that is served with
+        --history."""
+        with serving(self.room, 99999, *PATIENT, '--history') as (self.port, self.process), \
+                companion(self.port) as address:
+            show(address)
+            sent = 'SELECT callsign, incident, ord FROM assignments'
+            self.does('on duty', '5 d Enter', 'SELECT status FROM vehicles WHERE home = 1', '1\n0')
+            self.does('sent', 'lists Home g =1 Enter', sent, 'A1|1|1')
+            self.does('diverted', 'lists Home j =2 Enter', sent, 'A1|2|2')
+            self.does('that is taken back', 'lists u', sent, 'A1|1|3')
+            turns = 'SELECT incident, stood_down FROM turns ORDER BY ord'
+            self.check('the turns', self.rows(turns), '1|1\n2|1\n1|0')
 
     def check_shifts(self):
         status = 'SELECT callsign, status FROM vehicles WHERE home = 1'

@@ -16,10 +16,11 @@ async function proposals(it) {
     : { isEmpty: true, note: 'No vehicle that it lacks can be proposed.' };
 }
 
-/** The number of the nearest incident that lacks a vehicle's kind. */
+/** The number of the nearest incident that lacks a vehicle's kind, and is not its own. */
 function nearestLacking(room, it) {
   const vehicle = vehicleAt(room, it);
-  const lacking = room.incidents.filter((one) => vehicle && one.lack[vehicle.kind - 1]);
+  const lacking = room.incidents.filter((one) =>
+    vehicle && one.lack[vehicle.kind - 1] && one.number !== vehicle.incident);
   return byDistance(lacking, vehicle)[0]?.number;
 }
 
@@ -34,6 +35,24 @@ async function alreadySent(incident, vehicle) {
     it.vehicle === vehicle && it.incident === incident);
   return isSent ? `${vehicle} was sent to incident ${incident} already.` : '';
 }
+
+/** One step, both or nothing: the vehicle loses its order, and gets one for an incident. */
+const divert = (vehicle, incident) => ({ path: '/moves',
+  body: { moves: [{ incident: null, vehicle }, { incident, vehicle }] } });
+
+/** It is not asked for where the vehicle was sent there, as by a request whose answer was lost. */
+const divertTo = (room, { vehicle }, incident) =>
+  (vehicleAt(room, { vehicle })?.incident === incident
+    ? { words: `${vehicle} was sent to incident ${incident} already.` }
+    : divert(vehicle, incident));
+
+function divertBack(room, { vehicle }) {
+  const before = vehicleAt(room, { vehicle })?.incident;
+  return { words: `divert ${vehicle} back to incident ${before}`,
+    requests: [divert(vehicle, before)] };
+}
+
+const isOnItsWay = (room, it) => vehicleAt(room, it)?.status === 2;
 
 const takenBack = (vehicle) =>
   ({ words: `stand ${vehicle} down`, requests: [vehicleAsk({ vehicle }, 'standdown')] });
@@ -54,8 +73,15 @@ export const SENDING = [
     done: (it, { into }, { order }) => sentWords(Number(into), it.vehicle, order),
     already: (it, { into }) => alreadySent(Number(into), it.vehicle),
     undo: (it) => takenBack(it.vehicle) },
-  { key: 's', name: 'stand down', of: 'vehicle', button: 'Stand down',
-    fits: (room, it) => vehicleAt(room, it)?.status === 2,
+  { key: 'j', name: 'divert it to another incident', of: 'vehicle', button: 'Divert',
+    fits: isOnItsWay,
+    title: (it) => `Divert ${it.vehicle}`,
+    form: (it, room) => ({ fields: [numberField('into', 'To incident', nearestLacking(room, it),
+      'the nearest that lacks its kind')] }),
+    request: (it, { into }, room) => divertTo(room, it, Number(into)),
+    done: (it, { into }, { moves }) => sentWords(Number(into), it.vehicle, moves[1].order),
+    undo: (it, _, room) => divertBack(room, it) },
+  { key: 's', name: 'stand down', of: 'vehicle', button: 'Stand down', fits: isOnItsWay,
     confirm: (it) => `Stand ${it.vehicle} down? Its crew loses the order.`,
     request: (it) => vehicleAsk(it, 'standdown'),
     done: (it) => `${it.vehicle} is stood down.` },

@@ -14,6 +14,7 @@ SUMMARIES = {
     'Merge': 'Merges an incident into another.',
     'Close': 'Closes an incident.',
     'Vehicles': 'The vehicles that the division holds.',
+    'Moves': 'Sends vehicles and stands vehicles down, one after another: all, or none.',
     'StandDown': 'Takes back an order that is not acknowledged or is on its way.',
     'Standby': 'Sends a vehicle to a standby point, or from it with null.',
     'Duty': "Begins a vehicle's shift.",
@@ -39,7 +40,8 @@ SUMMARIES = {
 
 # The answers that are named otherwise than their path; all other paths are answered `Done`.
 ANSWERS = {'Call': ['Called'], 'Propose': ['Proposals'], 'Mobilise': ['Mobilised'],
-           'Report': ['Reported'], 'Job': ['Job', 'Order'], 'Last': ['LastReport', 'LastSerial']}
+           'Moves': ['Moved'], 'Report': ['Reported'], 'Job': ['Job', 'Order'],
+           'Last': ['LastReport', 'LastSerial']}
 
 PARAMETERS = {'Number': 'The number of an incident.', 'Callsign': 'The callsign of a vehicle.',
               'PointNumber': 'The number of a standby point.', 'Day': "A day of the plan's zone."}

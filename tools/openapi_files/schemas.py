@@ -92,15 +92,23 @@ def served():
     return {**listed(number('u64'), 3), 'description': KINDS}
 
 
+def moves():
+    """Moves as they are sent: the first, and as many more as may follow it."""
+    fields = {'incident': given('Option<Number>'), 'vehicle': given('Callsign')}
+    return {'type': 'array', 'items': exactly(fields), 'minItems': 1,
+            'maxItems': 1 + sources.constant('room_types/src/asks.rt', 'MORE_MOVES'),
+            'description': 'Each sends a vehicle to an incident, or with null stands it down.'}
+
+
 # What stands in a place of its own in the document: what is sent, and what is answered, by type.
-GIVEN = {'Place': 'GridReference', 'Needs': 'Needs'}
+GIVEN = {'Place': 'GridReference', 'Needs': 'Needs', 'Moves': 'Moves'}
 ANSWERED = {'Place': 'Place', 'Needs': 'Counts', 'Counts': 'Counts', 'Served': 'Served'}
 
 
 def shared():
     """The schemas of those."""
-    return {'GridReference': REFERENCE, 'Needs': needs(), 'Place': place(), 'Counts': counts(),
-            'Served': served()}
+    return {'GridReference': REFERENCE, 'Needs': needs(), 'Moves': moves(), 'Place': place(),
+            'Counts': counts(), 'Served': served()}
 
 
 def of_both(name):

@@ -48,6 +48,11 @@ def ranges():
     return {name: (int(least), int(greatest)) for name, least, greatest in found}
 
 
+def constant(place, name):
+    """A constant number."""
+    return int(re.search(rf'^pub const {name}: \w+ = (\d+);$', crate(place), re.M)[1])
+
+
 def fields(name):
     """The fields of a struct, and their types."""
     texts = [crate(f'room_types/src/{it}.rt') for it in ('answers', 'asks', 'tables')]

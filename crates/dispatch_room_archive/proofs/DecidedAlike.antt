@@ -2,7 +2,7 @@
 use Rattle.std.proofs.Common.{ap, eq-eqb, eqb-true, inl, inr, subst, sym, ◌∙◌}
 use Rattle.std.specs.List.{list_any}
 use Rattle.std.specs.Prelude.{Bool, Err, None, Option, Some, cond, false, not, refl, true, ℕ, ◌&&◌}
-use Rattle.std.specs.Prelude.{◌==◌, ◌||◌, ◌≡◌}
+use Rattle.std.specs.Prelude.{◌==◌, ◌≡◌}
 use Rattle.room_place.specs.Plans.{division_of}
 use Rattle.room_types.specs.KeyedRows.{keep, row_at}
 use Rattle.room_types.specs.Keys.{numbered_cmp, report_key, same_callsign}
@@ -10,8 +10,7 @@ use Rattle.room_types.specs.Texts.{Callsign}
 use Rattle.room_types.specs.declared.asks.Ask.{Ask}
 use Rattle.room_types.specs.declared.asks.NewCall.{NewCall}
 use Rattle.room_types.specs.declared.asks.Press.{Press}
-use Rattle.room_types.specs.declared.asks.Who.{Who}
-use Rattle.room_types.specs.declared.asks.Who.TheVariants.{Crew, Desk, Position}
+use Rattle.room_types.specs.declared.asks.Who.TheVariants.{Crew, Position}
 use Rattle.room_types.specs.declared.tables.Assignment.{Assignment}
 use Rattle.room_types.specs.declared.tables.Call.{Call}
 use Rattle.room_types.specs.declared.tables.Report.{Report}
@@ -32,7 +31,7 @@ use Rattle.room_model.specs.Queue.{clear, clear_found}
 use Rattle.room_model.specs.Reports.{report_held, report_in, report_kept, report_somewhere}
 use Rattle.room_model.specs.Reports.{take_report}
 use Rattle.room_model.specs.Room.{Room}
-use Rattle.room_model.specs.Step.{desk_asks, position_asks, who_asks}
+use Rattle.room_model.specs.Step.{position_asks, single_asks, who_asks}
 use Rattle.room_model.specs.RoomAgreements.{IsWellFormed}
 use Rattle.room_model.specs.WorkingRows.{NamedIncidents, NoIncident, OneIncident, TwoIncidents}
 use Rattle.room_model.specs.WorkingRows.{incidents_named, is_among}
@@ -46,8 +45,8 @@ use Rattle.dispatch_room_archive.proofs.AskedAlike.{vehicle_same}
 use Rattle.dispatch_room_archive.proofs.QueueAlike.{entries_same}
 use Rattle.dispatch_room_archive.proofs.RenewedAgreements.{active_stays}
 use Rattle.dispatch_room_archive.proofs.RowsLeft.{report_gone}
-use Rattle.dispatch_room_archive.specs.Continuation.{IsSettled, StaysBehind, asks_back, looks_back}
-use Rattle.dispatch_room_archive.specs.Continuation.{names_behind, sends_again, stayed_behind}
+use Rattle.dispatch_room_archive.specs.Continuation.{IsSettled, StaysBehind, looks_back}
+use Rattle.dispatch_room_archive.specs.Continuation.{sends_again, stayed_behind}
 use Rattle.dispatch_room_archive.specs.Successor.{Behind, without}
 use Rattle.room_types.specs.declared.answers.Answer.TheVariants as answer
 use Rattle.room_types.specs.declared.asks.Ask.TheVariants as ask
@@ -101,7 +100,8 @@ module _ (since : ℕ) (b : Behind) (r : Room) (w : IsWellFormed r) (h : StaysBe
     | inr f ↦ subst (λ k. b.incident d k ≡ false) (eqb-true k n f) (right_false (b.incident d m) _ e)
   ]
 
-  sees_new : (d : ℕ) (a : Ask) (at : ℕ) → names_behind b d a ≡ false → looks_back since b d r a ≡ false
+  sees_new : (d : ℕ) (a : Ask) (at : ℕ) → stayed_behind b d (incidents_named a) ≡ false
+      → looks_back since b d r a ≡ false
       → SeesAsked d a at new r
   unfolding all_held assignment_of point_of points_of offered_by offered_to offers_of loans_of borrowed
   sees_new d a at e g =
@@ -134,9 +134,9 @@ module _ (since : ℕ) (b : Behind) (r : Room) (w : IsWellFormed r) (h : StaysBe
         same_offers = λ f. refl;
       }
 
-  desk_same : (d : ℕ) (a : Ask) (at : ℕ) → names_behind b d a ≡ false → looks_back since b d r a ≡ false
-      → desk_asks d a at new ≡ desk_asks d a at r
-  desk_same d a at e g = asked_same d new r a at (sees_new d a at e g)
+  pub single_same : (d : ℕ) (a : Ask) (at : ℕ) → stayed_behind b d (incidents_named a) ≡ false
+      → looks_back since b d r a ≡ false → single_asks d a at new ≡ single_asks d a at r
+  single_same d a at e g = asked_same d new r a at (sees_new d a at e g)
 
   -- ---- a call
   somewhere_same : (o : Option ℕ) (x : NewCall) → call_somewhere o x new ≡ call_somewhere o x r
@@ -153,7 +153,7 @@ module _ (since : ℕ) (b : Behind) (r : Room) (w : IsWellFormed r) (h : StaysBe
       of (Some k) = refl
       of None = somewhere_same (division_of r.plan x.place) x
 
-  position_same : (p : ℕ) (a : Ask) (at : ℕ) → sends_again b (Position p) a ≡ false
+  pub position_same : (p : ℕ) (a : Ask) (at : ℕ) → sends_again b (Position p) a ≡ false
       → position_asks p a at new ≡ position_asks p a at r
   position_same p (ask.Call f) at e = call_same (new_call p f at) e
   position_same p ask.Last at e = ap (λ n. show (answer.LastSerial n)) (h.serials p)
@@ -196,7 +196,7 @@ module _ (since : ℕ) (b : Behind) (r : Room) (w : IsWellFormed r) (h : StaysBe
   job_same c =
       ap (where_found (vehicle_at c r) refusal.NoSuchVehicle) (order_same c (assignment_at c r) refl)
 
-  crew_same : (c : Callsign) (a : Ask) (at : ℕ) → sends_again b (Crew c) a ≡ false
+  pub crew_same : (c : Callsign) (a : Ask) (at : ℕ) → sends_again b (Crew c) a ≡ false
       → who_asks (Crew c) a at new ≡ who_asks (Crew c) a at r
   unfolding vehicle_at assignment_at
   crew_same c ask.Order at e = refl
@@ -204,10 +204,3 @@ module _ (since : ℕ) (b : Behind) (r : Room) (w : IsWellFormed r) (h : StaysBe
   crew_same c (ask.Report p) at e = report_same c p at e
   crew_same c ask.Last at e = refl
   crew_same c a at e = refl
-
-  pub who_same : (who : Who) (a : Ask) (at : ℕ) → asks_back since b who r a ≡ false
-      → sends_again b who a ≡ false → who_asks who a at new ≡ who_asks who a at r
-  who_same (Desk d) a at e g =
-      desk_same d a at (left_false (names_behind b d a) _ e) (right_false (names_behind b d a) _ e)
-  who_same (Position p) a at e g = position_same p a at g
-  who_same (Crew c) a at e g = crew_same c a at g

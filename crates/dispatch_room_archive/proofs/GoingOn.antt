@@ -10,7 +10,7 @@ use Rattle.room_model.specs.Room.{Room, apply}
 use Rattle.room_model.specs.Run.{room_run}
 use Rattle.room_model.specs.Step.{decided, room_after}
 use Rattle.room_model.specs.RoomAgreements.{IsWellFormed}
-use Rattle.dispatch_room_archive.proofs.DecidedAlike.{who_same}
+use Rattle.dispatch_room_archive.proofs.MovesAlike.{who_same}
 use Rattle.dispatch_room_archive.proofs.PastAsked.{asks_none, asks_nothing}
 use Rattle.dispatch_room_archive.proofs.RenewedAgreements.{well_formed_without}
 use Rattle.dispatch_room_archive.proofs.SpareAll.{who_all}
@@ -52,7 +52,7 @@ module _ (since : ℕ) (b : Behind) (old new : Room) (w : IsWellFormed old)
 
   pub nothing_new : asks_of_the_past since b old e ≡ true → changes_of (decided e new) ≡ []
   nothing_new f =
-      ap (λ r. changes_of (decided e r)) is.rows ∙ asks_none since b old is.behind w.order e.who e.ask e.at f
+      ap (λ r. changes_of (decided e r)) is.rows ∙ asks_none since b old is.behind w e.who e.ask e.at f
 
   changes_same : repeats_the_past b e ≡ false
       → changes_of (decided e new) ≡ changes_of (decided e old)

@@ -8,6 +8,7 @@ pub mod JoinedLemmas
 pub mod LeftBehind
 pub mod LeftLaws
 pub mod MadeOfRows
+pub mod MovesAlike
 pub mod PastAsked
 pub mod PastLaws
 pub mod PutLaws

@@ -1,7 +1,7 @@
 -- What becomes of events that speak of what stayed behind.
 use Rattle.std.proofs.Common.{ap, arith, eq-eqb, inl, inr, subst, sym, ◌∙◌}
 use Rattle.std.specs.Prelude.{Bool, Err, List, None, Option, Some, [], cond, false, filter, is_some}
-use Rattle.std.specs.Prelude.{map, max, nat_lt, not, refl, true, ℕ, ℤ, ◌<◌, ◌==◌, ◌∷◌, ◌≡◌}
+use Rattle.std.specs.Prelude.{map, max, nat_lt, not, refl, true, ℕ, ℤ, ◌<◌, ◌==◌, ◌||◌, ◌∷◌, ◌≡◌}
 use Rattle.room_place.specs.Plans.{division_of}
 use Rattle.room_types.specs.KeyedRows.{keep, put_row, row_at}
 use Rattle.room_types.specs.Keys.{callsign_cmp, numbered_cmp, report_key, vehicle_key}
@@ -38,9 +38,12 @@ use Rattle.room_model.specs.Room.{IsInOrder, Room, apply}
 use Rattle.room_model.specs.Step.{decided, desk_asks}
 use Rattle.room_model.specs.WorkingRows.{NamedIncidents, NoIncident, OneIncident, TwoIncidents}
 use Rattle.room_model.specs.WorkingRows.{incidents_named, is_among}
+use Rattle.room_model.specs.RoomAgreements.{IsWellFormed}
+use Rattle.dispatch_room_archive.proofs.MovesAlike.{moves_none, moves_nothing}
 use Rattle.dispatch_room_archive.proofs.RowsLeft.{call_gone, incident_gone, report_gone}
 use Rattle.dispatch_room_archive.specs.Continuation.{IsOver, IsSettled, IsTakenLate, StaysBehind}
-use Rattle.dispatch_room_archive.specs.Continuation.{asks_back, looks_back, names_behind}
+use Rattle.dispatch_room_archive.specs.Continuation.{asks_back, looks_back, moves_behind}
+use Rattle.dispatch_room_archive.specs.Continuation.{names_behind}
 use Rattle.dispatch_room_archive.specs.Continuation.{sends_again, stayed_behind}
 use Rattle.dispatch_room_archive.specs.Successor.{Behind, without}
 use Rattle.room_types.specs.declared.answers.Answer.TheVariants as answer
@@ -96,10 +99,14 @@ module _ (since : ℕ) (b : Behind) (r : Room) (h : StaysBehind since b r) where
 
   pub asks_nothing : (who : Who) (a : Ask) (at : ℕ) → asks_back since b who r a ≡ true
       → changes_of (decided (record { who = who; ask = a; at = at }) r) ≡ []
-  asks_nothing (Desk d) a at e = elim (either_true (names_behind b d a) (looks_back since b d r a) e) [
-    | inl f ↦ names_nothing d a at f
-    | inr f ↦ quiet_shows at r (Desk d) a (looks_quiet since b d r a f)
-  ]
+  asks_nothing (Desk d) a at e =
+      elim (either_true (names_behind b d a) (moves_behind b d a || looks_back since b d r a) e) [
+        | inl f ↦ names_nothing d a at f
+        | inr more ↦ elim (either_true (moves_behind b d a) (looks_back since b d r a) more) [
+          | inl f ↦ moves_nothing since b r h d a at f
+          | inr f ↦ quiet_shows at r (Desk d) a (looks_quiet since b d r a f)
+        ]
+      ]
   asks_nothing (Position p) a at e = cc
   asks_nothing (Crew c) a at e = cc
 
@@ -133,15 +140,6 @@ module _ (since : ℕ) (b : Behind) (r : Room) (h : StaysBehind since b r) where
     names_none d a at e =
         let named = of_named d (incidents_named a) e in
         absent_is_refused d new named.0 a at named.1.0 (none_there d named.0 named.1.1)
-
-    pub asks_none : (who : Who) (a : Ask) (at : ℕ) → asks_back since b who r a ≡ true
-        → changes_of (decided (record { who = who; ask = a; at = at }) new) ≡ []
-    asks_none (Desk d) a at e = elim (either_true (names_behind b d a) (looks_back since b d r a) e) [
-      | inl f ↦ ap changes_of (names_none d a at f)
-      | inr f ↦ quiet_shows at new (Desk d) a (looks_quiet since b d r a f)
-    ]
-    asks_none (Position p) a at e = cc
-    asks_none (Crew c) a at e = cc
 
     pub call_again : (p : ℕ) (f : CallForm) (at : ℕ) → b.call p f.serial ≡ true
         → decided (by_position p (ask.Call f) at) new
@@ -217,6 +215,19 @@ module _ (since : ℕ) (b : Behind) (r : Room) (h : StaysBehind since b r) where
     unfolding vehicle_at
     report_again c p at e =
         taken_late c p at (vehicle_at c r) (kept_report c p.number r) refl e (h.reports c p.number e)
+
+  pub asks_none : IsWellFormed r → (who : Who) (a : Ask) (at : ℕ) → asks_back since b who r a ≡ true
+      → changes_of (decided (record { who = who; ask = a; at = at }) new) ≡ []
+  asks_none w (Desk d) a at e =
+      elim (either_true (names_behind b d a) (moves_behind b d a || looks_back since b d r a) e) [
+        | inl f ↦ ap changes_of (names_none w.order d a at f)
+        | inr more ↦ elim (either_true (moves_behind b d a) (looks_back since b d r a) more) [
+          | inl f ↦ moves_none since b r w h d a at f
+          | inr f ↦ quiet_shows at new (Desk d) a (looks_quiet since b d r a f)
+        ]
+      ]
+  asks_none w (Position p) a at e = cc
+  asks_none w (Crew c) a at e = cc
 
 -- ---- the times that are left
 pub times_left : (b : Behind) (r : Room) (d : ℕ) (from to : ℤ) (at : ℕ)

@@ -14,6 +14,7 @@ use Rattle.room_types.specs.KeyLemmas.{exact_pair, pairs_total}
 use Rattle.room_types.specs.Slices.{IsActive}
 use Rattle.room_types.specs.Texts.{Callsign}
 use Rattle.room_types.specs.declared.asks.Ask.{Ask}
+use Rattle.room_types.specs.declared.asks.Move.{Move}
 use Rattle.room_types.specs.declared.asks.NewCall.{NewCall}
 use Rattle.room_types.specs.declared.asks.Press.{Press}
 use Rattle.room_types.specs.declared.asks.Who.{Who}
@@ -34,7 +35,9 @@ use Rattle.room_types.specs.declared.tables.Turn.{Turn}
 use Rattle.room_types.specs.declared.tables.Vehicle.{Vehicle}
 use Rattle.room_model.proofs.Changes.{AllOf}
 use Rattle.room_model.proofs.DecisionLaws.{by_refuse, by_report}
+use Rattle.room_model.proofs.KeptAsks.{mobilise_kept, stand_down_kept}
 use Rattle.room_model.proofs.KeptIncidents.{incident_there}
+use Rattle.room_model.proofs.MoveFolds.{apply_both, by_ask, by_moves}
 use Rattle.room_model.proofs.OpenTurns.{open_there, row_there}
 use Rattle.room_model.proofs.Others.{held_is, keep_some}
 use Rattle.room_model.proofs.Questions.{IsQuiet, by_quiet}
@@ -53,8 +56,9 @@ use Rattle.room_model.specs.Queue.{clear, clear_found}
 use Rattle.room_model.specs.Reports.{back_changes, drop_changes, ends_turn, is_due, is_home}
 use Rattle.room_model.specs.Reports.{outcome_of, report_held, report_in, report_kept}
 use Rattle.room_model.specs.Reports.{report_somewhere, turn_after, turn_changes}
-use Rattle.room_model.specs.Room.{Room}
-use Rattle.room_model.specs.Step.{desk_asks, position_asks, who_asks}
+use Rattle.room_model.specs.Room.{Room, apply}
+use Rattle.room_model.specs.Step.{ask_of, course, desk_asks, moves_in, position_asks}
+use Rattle.room_model.specs.Step.{single_asks, verdict_of, who_asks}
 use Rattle.room_model.specs.Vehicles.{duty, mobilise, mobilise_held, mobilised, off, off_duty}
 use Rattle.room_model.specs.Vehicles.{on_duty, stand_down, stand_down_held, standby, standby_at}
 use Rattle.room_model.specs.Vehicles.{stands_by, turn_stood_down}
@@ -62,7 +66,7 @@ use Rattle.room_model.specs.RoomAgreements.{IsGiven, IsWellFormed, NumberAgrees}
 use Rattle.dispatch_room_archive.proofs.AskedAlike.{active_among, call_among, report_settled}
 use Rattle.dispatch_room_archive.proofs.LeftBehind.{from_left, not_true}
 use Rattle.dispatch_room_archive.proofs.RenewedAgreements.{active_stays, open_stays}
-use Rattle.dispatch_room_archive.proofs.SparingChanges.{Spares, last_after}
+use Rattle.dispatch_room_archive.proofs.SparingChanges.{Spares, last_after, stays_all}
 use Rattle.dispatch_room_archive.specs.Continuation.{IsOver, IsSettled, StaysBehind}
 use Rattle.dispatch_room_archive.specs.Successor.{Behind}
 use Rattle.room_types.specs.declared.asks.Ask.TheVariants as ask
@@ -241,10 +245,10 @@ module _ (since : ℕ) (b : Behind) (r : Room) (w : IsWellFormed r) (h : StaysBe
     tt,
   ))
 
-  desk_all : (d : ℕ) (a : Ask) (at : ℕ) → Holds (desk_asks d a at r)
+  pub single_all : (d : ℕ) (a : Ask) (at : ℕ) → Holds (single_asks d a at r)
   unfolding mobilise change_needs merge close stand_down standby duty off lend withdraw decline accept recall give_back
       clear
-  desk_all d (ask.Mobilise n c) at =
+  single_all d (ask.Mobilise n c) at =
       by_incident d n (mobilise_held d (held d c r) (lent d c r) at (λ k. served d n k r))
       (λ i p.
       by_vehicle d c (mobilised d i at (λ k. served d n k r))
@@ -253,35 +257,36 @@ module _ (since : ℕ) (b : Behind) (r : Room) (w : IsWellFormed r) (h : StaysBe
       refuse _ _ _ (λ f.
       refuse _ _ _
       (λ g. refuse _ _ _ (λ k. (p.spared, (q, (ap (λ x. b.incident x i.number) p.division ∙ p.spared, (tt, tt))))))))))
-  desk_all d (ask.Needs n needs) at =
+  single_all d (ask.Needs n needs) at =
       by_incident d n (needs_changed needs (λ k. served d n k r)) (λ i p. refuse _ _ _ (λ e. (p.spared, tt)))
-  desk_all d (ask.Merge n m) at = merged d n m (incident_of d n r) (incident_of d m r) (is_attended d n r) refl refl
-  desk_all d (ask.Close n) at =
+  single_all d (ask.Merge n m) at = merged d n m (incident_of d n r) (incident_of d m r) (is_attended d n r) refl refl
+  single_all d (ask.Close n) at =
       by_incident d n (close_active (is_attended d n r)) (λ i p. refuse _ _ _ (λ e. (p.spared, tt)))
-  desk_all d (ask.StandDown c) at =
+  single_all d (ask.Moves ms) at = tt
+  single_all d (ask.StandDown c) at =
       by_vehicle d c (stand_down_held at (open_turn d c r)) (λ v q.
       refuse _ _ _ (λ e.
       append (turn_stood_down at (open_turn d c r))
       (DropAssignment v.callsign ∷ PutVehicle (record v { status = Returning }) ∷ [])
       (stood_down d c at (open_turn d c r) refl) (tt, (q, tt))))
-  desk_all d (ask.Standby c p) at =
+  single_all d (ask.Standby c p) at =
       by_vehicle d c (stands_by p (λ n. is_some (point_of d n r)) at)
       (λ v q. refuse _ _ _ (λ e. standby_all p _ at v q))
-  desk_all d (ask.Duty c place until) at =
+  single_all d (ask.Duty c place until) at =
       by_vehicle d c (on_duty place until at) (λ v q. refuse _ _ _ (λ e. refuse _ _ _ (λ f. (q, tt))))
-  desk_all d (ask.Off c) at = by_vehicle d c off_duty (λ v q. refuse _ _ _ (λ e. refuse _ _ _ (λ f. (q, tt))))
-  desk_all d (ask.Lend c to until) at =
+  single_all d (ask.Off c) at = by_vehicle d c off_duty (λ v q. refuse _ _ _ (λ e. refuse _ _ _ (λ f. (q, tt))))
+  single_all d (ask.Lend c to until) at =
       by_vehicle d c (offered r.plan d to until at) (λ v q.
       refuse _ _ _ (λ e. refuse _ _ _ (λ f. refuse _ _ _ (λ g. refuse _ _ _ (λ k. refuse _ _ _ (λ l. (q, (tt, tt))))))))
-  desk_all d (ask.Withdraw c) at = by_vehicle d c (withdrawn (offered_by d c r)) (withdrawn_all (offered_by d c r))
-  desk_all d (ask.Decline c) at = declined_all (offered_to d c r)
-  desk_all d (ask.Accept c) at = accepted_all (offered_to d c r) at
-  desk_all d (ask.Recall c) at = recalled_all (lent d c r) (held d c r)
-  desk_all d (ask.GiveBack c) at =
+  single_all d (ask.Withdraw c) at = by_vehicle d c (withdrawn (offered_by d c r)) (withdrawn_all (offered_by d c r))
+  single_all d (ask.Decline c) at = declined_all (offered_to d c r)
+  single_all d (ask.Accept c) at = accepted_all (offered_to d c r) at
+  single_all d (ask.Recall c) at = recalled_all (lent d c r) (held d c r)
+  single_all d (ask.GiveBack c) at =
       by_vehicle d c (given_back d (borrowed d c r)) (λ v q. refuse _ _ _ (λ e. refuse _ _ _ (λ f. (q, (tt, tt)))))
-  desk_all d (ask.Clear c n) at = cleared_all d c n (report_of d c n r) refl
-  desk_all d (ask.SetPoint n place cover) at = (tt, tt)
-  desk_all d a at = quiet (Desk d) a at refl
+  single_all d (ask.Clear c n) at = cleared_all d c n (report_of d c n r) refl
+  single_all d (ask.SetPoint n place cover) at = (tt, tt)
+  single_all d a at = quiet (Desk d) a at refl
 
   -- ---- a call
   target_spared : (d : ℕ) (p : Place) (at : ℕ) (i : Incident) → link_target d p at r ≡ Some i
@@ -406,7 +411,39 @@ module _ (since : ℕ) (b : Behind) (r : Room) (w : IsWellFormed r) (h : StaysBe
   crew_all c (ask.Report p) at = kept_all c p at (kept_report c p.number r) refl
   crew_all c a at = quiet (Crew c) a at refl
 
-  pub who_all : (who : Who) (a : Ask) (at : ℕ) → Holds (who_asks who a at r)
-  who_all (Desk d) a at = desk_all d a at
-  who_all (Position p) a at = position_all p a at
-  who_all (Crew c) a at = crew_all c a at
+-- ---- whoever asks
+module _ (since : ℕ) (b : Behind) where
+  -- changes spare what stayed behind, and leave a room that they may follow
+  abbrev SparesOn : Room → List Change → Type 0
+  SparesOn r cs = IsWellFormed r → StaysBehind since b r
+      → AllOf (Spares b) cs × IsWellFormed (apply r cs)
+
+  both_on : (r : Room) (cs ds : List Change) → SparesOn r cs → SparesOn (apply r cs) ds
+      → SparesOn r (cs ++ ds)
+  both_on r cs ds f g w h =
+      let first = f w h in
+      let rest = g first.1 (stays_all since b r cs w.order first.0 h) in (
+        append since b r w h cs ds first.0 rest.0,
+        subst IsWellFormed (sym (apply_both r cs ds)) rest.1,
+      )
+
+  moves_all : (d : ℕ) (ms : List Move) (at : ℕ) (r : Room)
+      → SparesOn r (changes_of (verdict_of (course d ms at r)))
+  moves_all d ms at r =
+      by_moves d at SparesOn (λ s w h. (tt, w))
+      (λ m s w h. (
+        single_all since b s w h d (ask_of m) at,
+        by_ask (λ a. IsWellFormed (apply s (changes_of (single_asks d a at s))))
+            (λ c. stand_down_kept d s w c at) (λ n c. mobilise_kept d s w n c at) m,
+      )) both_on ms r
+
+  desk_all : (d : ℕ) (a : Ask) (at : ℕ) (r : Room) (w : IsWellFormed r) (h : StaysBehind since b r)
+      → AllOf (Spares b) (changes_of (desk_asks d a at r))
+  desk_all d (ask.Moves ms) at r w h = (moves_all d (moves_in ms) at r w h).0
+  desk_all d a at r w h = single_all since b r w h d a at
+
+  pub who_all : (r : Room) (w : IsWellFormed r) (h : StaysBehind since b r) (who : Who) (a : Ask)
+      (at : ℕ) → AllOf (Spares b) (changes_of (who_asks who a at r))
+  who_all r w h (Desk d) a at = desk_all d a at r w h
+  who_all r w h (Position p) a at = position_all since b r w h p a at
+  who_all r w h (Crew c) a at = crew_all since b r w h c a at

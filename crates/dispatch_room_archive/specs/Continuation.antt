@@ -21,7 +21,7 @@ use Rattle.room_model.specs.Queries.{calls_of, incident_of, kept_call, kept_repo
 use Rattle.room_model.specs.Queries.{vehicle_at}
 use Rattle.room_model.specs.Reports.{report_row}
 use Rattle.room_model.specs.Room.{Room}
-use Rattle.room_model.specs.Step.{answer_to, room_after}
+use Rattle.room_model.specs.Step.{answer_to, ask_of, moves_in, room_after}
 use Rattle.room_model.specs.WorkingRows.{NamedIncidents, NoIncident, OneIncident, TwoIncidents}
 use Rattle.room_model.specs.WorkingRows.{incidents_named}
 use Rattle.dispatch_room_archive.specs.Successor.{Behind, without}
@@ -65,6 +65,12 @@ stayed_behind b d (TwoIncidents n m) = b.incident d n || b.incident d m
 abbrev pub names_behind : Behind → ℕ → Ask → Bool
 names_behind b d a = stayed_behind b d (incidents_named a)
 
+-- one of its moves does
+abbrev pub moves_behind : Behind → ℕ → Ask → Bool
+moves_behind b d (ask.Moves ms) =
+    list_any (λ m. stayed_behind b d (incidents_named (ask_of m))) (moves_in ms)
+moves_behind b d a = false
+
 -- it asks for times from before that moment, for a vehicle's reports of which one stayed behind, or
 -- for the history of an incident into which one that stayed behind was merged
 abbrev pub looks_back : ℕ → Behind → ℕ → Room → Ask → Bool
@@ -76,7 +82,8 @@ looks_back since b d r (ask.Incident n) = list_any (λ c. b.incident d c.given) 
 looks_back since b d r a = false
 
 abbrev pub asks_back : ℕ → Behind → Who → Room → Ask → Bool
-asks_back since b (Desk d) r a = names_behind b d a || looks_back since b d r a
+asks_back since b (Desk d) r a =
+    names_behind b d a || (moves_behind b d a || looks_back since b d r a)
 asks_back since b (Position p) r a = false
 asks_back since b (Crew c) r a = false
 

@@ -71,9 +71,9 @@ pub fn rooms_go_on_alike()
         × IsSuccessor since b (room_run es old) (room_run es new) }
 {}
 
-/// What a desk asks of the past changes neither room. An incident that stayed behind is not found
-/// in the new room; the times are those of the incidents that did not stay behind, and a vehicle's
-/// reports those that did not.
+/// What a desk asks of the past changes neither room, and so do moves of which one names an
+/// incident that stayed behind. Such an incident is not found in the new room; the times are those
+/// of the incidents that did not stay behind, and a vehicle's reports those that did not.
 pub fn the_past_is_not_found()
     ensures incident { (since : ℕ) (b : Behind) (old new : Room) (d : ℕ) (a : Ask) (at : ℕ) →
         IsWellFormed old → IsSuccessor since b old new →

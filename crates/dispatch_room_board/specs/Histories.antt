@@ -7,7 +7,7 @@ use Rattle.dispatch_room_board.specs.declared.cell_layout.Column.{Column}
 use Rattle.dispatch_room_board.specs.declared.cell_layout.Column.TheVariants.{Left, Right}
 use Rattle.dispatch_room_board.specs.declared.history_lines.History.{History}
 use Rattle.dispatch_room_board.specs.declared.board_pages.Paint.TheVariants.{Plain, Title}
-use Rattle.dispatch_room_board.specs.declared.subject_columns.Subject.{Subject}
+use Rattle.dispatch_room_board.specs.declared.summary_columns.IncidentSummary.{IncidentSummary}
 use Rattle.dispatch_room_board.specs.declared.turn_columns.TurnLine.{TurnLine}
 use Rattle.dispatch_room_board.specs.BoardCells.{after_text, counts_text, named_text, place_text}
 use Rattle.dispatch_room_board.specs.BoardCells.{served_text, since_any_text, since_text}
@@ -20,7 +20,7 @@ use Rattle.dispatch_room_board.specs.Pages.{line_of, spaced_line, text_line}
 use Rattle.dispatch_room_board.specs.BoardTables.{Table, table_lines}
 
 -- ---- what it says: each field is what the member of its name says
-pub record IsSubject (d : Data) (row : Subject) : Type 0 where
+pub record IsSummary (d : Data) (row : IncidentSummary) : Type 0 where
   pub number : HasMember IsNumber (codes "number") d row.number
   pub state : HasMember IsByte (codes "state") d row.state
   pub into : HasMember (IsOrNull IsNumber) (codes "into") d row.into
@@ -54,7 +54,7 @@ pub record IsTurnLine (d : Data) (row : TurnLine) : Type 0 where
   pub stood_down : HasMember IsBool (codes "stood_down") d row.stood_down
 
 pub record IsHistory (d : Data) (history : History) : Type 0 where
-  pub subject : IsSubject d history.subject
+  pub summary : IsSummary d history.summary
   pub calls : HasMember (IsList IsCallLine) (codes "calls") d history.calls
   pub turns : HasMember (IsList IsTurnLine) (codes "turns") d history.turns
 
@@ -73,27 +73,27 @@ abbrev pub history_title : List ℕ
 history_title = codes "Incident"
 
 -- the title gives the number of the incident, and what became of it
-unfoldable pub subject_title : Subject → List ℕ
-subject_title s =
+unfoldable pub summary_title : IncidentSummary → List ℕ
+summary_title s =
     history_title ++ codes " " ++ decimal s.number ++ codes ": " ++ state_text s.state s.into
 
-abbrev pub subject_titles : List ℕ
-subject_titles = codes " class place          needed served              age first order"
+abbrev pub summary_titles : List ℕ
+summary_titles = codes " class place          needed served              age first order"
 
-abbrev pub subject_columns : List Column
-subject_columns = Right 5 ∷ Left 14 ∷ Left 6 ∷ Left 12 ∷ Right 10 ∷ Right 11 ∷ []
+abbrev pub summary_columns : List Column
+summary_columns = Right 5 ∷ Left 14 ∷ Left 6 ∷ Left 12 ∷ Right 10 ∷ Right 11 ∷ []
 
-abbrev pub subject_texts : ℕ → Subject → List (List ℕ)
-subject_texts now s =
+abbrev pub summary_texts : ℕ → IncidentSummary → List (List ℕ)
+summary_texts now s =
     decimal s.class ∷ place_text s.place ∷ counts_text s.needs ∷ served_text s.served
     ∷ since_text now s.opened ∷ since_any_text now s.first_order ∷ []
 
 -- the incident below an empty line
-abbrev pub subject_lines : Bool → ℕ → Subject → List ℕ
-subject_lines colour now s =
-    spaced_line colour Title (subject_title s)
-    ++ text_line colour Plain subject_titles
-    ++ line_of colour Plain (row_of subject_columns (subject_texts now s))
+abbrev pub summary_lines : Bool → ℕ → IncidentSummary → List ℕ
+summary_lines colour now s =
+    spaced_line colour Title (summary_title s)
+    ++ text_line colour Plain summary_titles
+    ++ line_of colour Plain (row_of summary_columns (summary_texts now s))
 
 abbrev pub call_table : Table CallLine
 call_table = record {
@@ -132,6 +132,6 @@ turn_table = record {
 -- an incident, its calls and its turns
 abbrev pub history_lines : Bool → ℕ → History → List ℕ
 history_lines colour now h =
-    subject_lines colour now h.subject
+    summary_lines colour now h.summary
     ++ table_lines call_table colour now h.calls
     ++ table_lines turn_table colour now h.turns

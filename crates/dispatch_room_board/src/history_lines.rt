@@ -8,7 +8,7 @@ use crate::answer_rows::rows_in;
 use crate::board_pages::Page;
 use crate::call_columns::CallLine;
 use crate::json_members::FromJson;
-use crate::subject_columns::{Subject, put_subject};
+use crate::summary_columns::{IncidentSummary, put_summary};
 use crate::table_layouts::put_rows;
 use crate::turn_columns::TurnLine;
 use room_types::answers::Listed;
@@ -19,7 +19,7 @@ use std::alloc::{AllocError, Global};
 /// An incident with its calls, and with the turns of the vehicles that were sent to it.
 #[derive(Drop)]
 pub struct History {
-    pub subject: Subject,
+    pub summary: IncidentSummary,
     pub calls: Listed<CallLine>,
     pub turns: Listed<TurnLine>,
 }
@@ -28,13 +28,13 @@ impl FromAnswer for History {
     ghost gives = { IsHistory };
 
     fn from_answer(alloc: Global, value: &Value) -> Result<Option<History>, AllocError> {
-        let subject = Subject::from_json(value);
+        let summary = IncidentSummary::from_json(value);
         let calls = rows_in(alloc, value, "calls")?;
         let turns = rows_in(alloc, value, "turns")?;
-        let members = subject.zip(calls).zip(turns);
+        let members = summary.zip(calls).zip(turns);
         match members {
-            Some(((subject, calls), turns)) => Ok(Some(History {
-                subject,
+            Some(((summary, calls), turns)) => Ok(Some(History {
+                summary,
                 calls,
                 turns,
             })),
@@ -53,7 +53,7 @@ pub fn put_history(
     ensures { OnOk result (Adds page.old page.new
         (history_lines page.old.colour now history.now)) }
 {
-    put_subject(alloc, page, &history.subject, now)?;
+    put_summary(alloc, page, &history.summary, now)?;
     put_rows(alloc, page, &history.calls, now)?;
     put_rows(alloc, page, &history.turns, now)
 }

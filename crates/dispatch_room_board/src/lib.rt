@@ -22,7 +22,7 @@ mod proposal_columns;
 mod queue_columns;
 mod renderer;
 pub mod requests;
-mod subject_columns;
+mod summary_columns;
 mod table_layouts;
 mod turn_columns;
 mod vehicle_columns;

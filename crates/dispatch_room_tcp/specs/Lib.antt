@@ -6,7 +6,7 @@ pub mod HeardRooms
 pub mod Listeners
 -- a room that is served in parts
 pub mod ServedParts
--- the door of the system
-pub mod SystemDoors
+-- the acceptor of the system
+pub mod SystemAcceptors
 -- the room of a file that is served
 pub mod ServedFiles

@@ -21,7 +21,7 @@ use Rattle.dispatch_room_tcp.specs.declared.serve.Served.{Served}
 use Rattle.dispatch_room_serving.specs.Callers.{Opening, PrintsStart}
 use Rattle.dispatch_room_serving.specs.declared.served_room.ServiceLimits.{ServiceLimits}
 use Rattle.dispatch_room_tcp.specs.declared.listeners.TcpAddress.{TcpAddress}
-use Rattle.dispatch_room_tcp.specs.SystemDoors.{SystemDoor}
+use Rattle.dispatch_room_tcp.specs.SystemAcceptors.{SystemAcceptor}
 
 -- a service that goes on until it is stopped
 abbrev pub is_endless : Service → Bool
@@ -111,12 +111,12 @@ watch_of contents has_journal service = record {
   contents = contents;
 }
 
--- the door of a service: where it listens, how many seconds a connection may be silent, and how
+-- the acceptor of a service: where it listens, how many seconds a connection may be silent, and how
 -- many a request and its answer have
-abbrev pub IsDoorOf : Service → SystemDoor → Type 0
-IsDoorOf service door = (door.address ≡ service.address)
-    × (as_nanos door.keep ≡ service.keep * 1_000_000_000)
-    × (as_nanos door.patience ≡ service.patience * 1_000_000_000)
+abbrev pub IsAcceptorOf : Service → SystemAcceptor → Type 0
+IsAcceptorOf service acceptor = (acceptor.address ≡ service.address)
+    × (as_nanos acceptor.keep ≡ service.keep * 1_000_000_000)
+    × (as_nanos acceptor.patience ≡ service.patience * 1_000_000_000)
 
 -- the address of a service that serves so many connections: where it listens, how many milliseconds
 -- it waits for the first byte of a message, and how many seconds a message and its answer have
@@ -147,13 +147,13 @@ module _ {D F : Type 0} (disk : Disk D) (contents : F → Option (List ℕ)) whe
       (Ends disk (there file) (Serves heard written over_files is_listening manner listener conn))
       (λ served. Gives served.done))
 
-  -- The room of a file is served, with a journal in this list or none: at the door of a service,
-  -- where it goes on until it is stopped, or at its address to as many connections as was asked
-  -- for, one after another.
+  -- The room of a file is served, with a journal in this list or none: at the acceptor of a
+  -- service, where it goes on until it is stopped, or at its address to as many connections as was
+  -- asked for, one after another.
   abbrev pub IsServedBy : Bool → Option (F × ListEnd) → List ℕ → Service → Command F Done
   IsServedBy true list file service = λ before after came.
-      (door : SystemDoor) × IsDoorOf service door
-      × IsServedAt (λ _. None) (λ _. None) false (manner_of contents service list) door file
+      (acceptor : SystemAcceptor) × IsAcceptorOf service acceptor
+      × IsServedAt (λ _. None) (λ _. None) false (manner_of contents service list) acceptor file
       before after came
   IsServedBy false list file service = λ before after came.
       (listener : TcpAddress) × IsAddressOf service listener

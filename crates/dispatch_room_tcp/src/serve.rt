@@ -10,7 +10,7 @@ ghost use Rattle.dispatch_room_tasks.specs.OpenedRoom.{IsUnopened};
 ghost use Rattle.dispatch_room_serving.specs.Callers.{MayCall, Prints, PrintsStart};
 ghost use Rattle.dispatch_room_serving.specs.Journals.{EndsAfter, failed_by};
 ghost use Rattle.dispatch_room_serving.specs.declared.list_places.Finding.TheVariants.{Truncated};
-ghost use Rattle.dispatch_room_tcp.specs.ServedFiles.{IsAddressOf, IsDoorOf, IsServe, IsServed};
+ghost use Rattle.dispatch_room_tcp.specs.ServedFiles.{IsAcceptorOf, IsAddressOf, IsServe, IsServed};
 ghost use Rattle.dispatch_room_tcp.specs.ServedFiles.{IsServedAt, PrintsServing};
 ghost use Rattle.dispatch_room_tcp.specs.ServedFiles.{begins_at, ended, is_endless, is_synced_by};
 ghost use Rattle.dispatch_room_tcp.specs.ServedFiles.{keeps_questions_by, manner_of, limits_of};
@@ -21,7 +21,7 @@ ghost use Rattle.dispatch_room_disk.specs.SystemFiles.{system};
 
 use crate::hosts::{Host, Machine};
 use crate::listeners::{Listener, TcpAddress};
-use crate::tcp_acceptors::{SystemDoor, TcpDoor};
+use crate::tcp_acceptors::{SystemAcceptor, TcpAcceptor};
 use crate::tcp_callers::TcpCallers;
 use dispatch_room_cli::tasks::Service;
 use dispatch_room_disk::room_files::RoomFile;
@@ -61,7 +61,7 @@ pub fn serve_file<M: Machine, O: Write>(
     let journal = journal_file(machine, &service)?;
     let run = ServiceRun { host, service };
     if is_endless(&run.service) {
-        serve_at(machine, file, &run, journal, door_of(file, &run), out)
+        serve_at(machine, file, &run, journal, acceptor_of(file, &run), out)
     } else {
         serve_at(machine, file, &run, journal, address_of(&run), out)
     }
@@ -82,15 +82,15 @@ fn is_endless(service: &Service<'_>) -> bool
     service.connections == u64::MAX
 }
 
-// The door of a service that goes on until it is stopped.
-fn door_of<'a>(file: &'a str, run: &ServiceRun<'a>) -> SystemDoor<'a, HostRuntime>
-    ensures door { IsDoorOf run.now.service result }
+// The acceptor of a service that goes on until it is stopped.
+fn acceptor_of<'a>(file: &'a str, run: &ServiceRun<'a>) -> SystemAcceptor<'a, HostRuntime>
+    ensures acceptor { IsAcceptorOf run.now.service result }
     ensures deaf { is_some result.waiting ≡ false }
 {
     let keep = Duration::from_secs(u64::from(run.service.keep));
     let patience = waits_of(&run.service).patience;
     let host = run.host;
-    TcpDoor::new(host.rt, host, file, run.service.address, keep, patience)
+    TcpAcceptor::new(host.rt, host, file, run.service.address, keep, patience)
 }
 
 // The address of a service that serves so many connections.

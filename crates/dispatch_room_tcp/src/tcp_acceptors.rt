@@ -1,4 +1,4 @@
-//! A door at which nobody waits for a silent caller: each connection is served in pieces, and
+//! An acceptor at which nobody waits for a silent caller: each connection is served in pieces, and
 //! between two pieces it waits among the others.
 ghost use Rattle.std.specs.Prelude.{◌≡◌, ◌||◌, if◌then◌else◌, IfErr, IfOk, IfSome, None, OnErr};
 ghost use Rattle.std.specs.Prelude.{OnOk, false, is_some, not, option_map, true};
@@ -21,11 +21,11 @@ use std::time::Duration;
 
 /// What acceptors are opened in: its clock times them, and callers are accepted from its listeners.
 /// What is accepted is generic over it: so nobody is given only where it gave nobody.
-pub trait DoorSystem: MonotonicClock {
+pub trait AcceptorSystem: MonotonicClock {
     /// What listens.
     type Listener: NonblockingListener;
 
-    /// The door of an address. It fails only as `Network`, and explains why.
+    /// The acceptor of an address. It fails only as `Network`, and explains why.
     fn open<'a>(
         &'a self,
         host: Host<'_>,
@@ -34,7 +34,7 @@ pub trait DoorSystem: MonotonicClock {
         ensures { IfErr result (λ fault. fault ≡ Network) };
 }
 
-impl DoorSystem for HostRuntime {
+impl AcceptorSystem for HostRuntime {
     type Listener = TcpListener;
 
     fn open<'a>(
@@ -44,7 +44,7 @@ impl DoorSystem for HostRuntime {
     ) -> Result<Acceptor<'a, HostRuntime, TcpListener>, Failure> {
         let listener = bound(self, host.explainer, address)?;
         match Acceptor::new(self, host.alloc, listener) {
-            Ok(door) => Ok(door),
+            Ok(acceptor) => Ok(acceptor),
             Err(error) => {
                 host.explainer.explain(format_args!("{address}: {error}"));
                 Err(Failure::Network)
@@ -53,9 +53,9 @@ impl DoorSystem for HostRuntime {
     }
 }
 
-/// A door at an address of TCP, in a system with its listener and its streams.
+/// An acceptor at an address of TCP, in a system with its listener and its streams.
 #[derive(Drop)]
-pub struct TcpDoor<'a, S, L, T> {
+pub struct TcpAcceptor<'a, S, L, T> {
     system: &'a S,
     host: Host<'a>,
     address: SocketAddr,
@@ -70,19 +70,19 @@ pub struct TcpDoor<'a, S, L, T> {
 }
 
 // The stream of a system's callers, and the sides of a piece of it.
-type Stream<S> = <<S as DoorSystem>::Listener as NonblockingListener>::Stream;
+type Stream<S> = <<S as AcceptorSystem>::Listener as NonblockingListener>::Stream;
 
 type Reader<'a, S> = PieceReader<'a, S, Stream<S>>;
 
 type Writer<'a, S> = PieceWriter<'a, S, Stream<S>>;
 
-/// The door of a system.
-pub type SystemDoor<'a, S> = TcpDoor<'a, S, <S as DoorSystem>::Listener, Stream<S>>;
+/// The acceptor of a system.
+pub type SystemAcceptor<'a, S> = TcpAcceptor<'a, S, <S as AcceptorSystem>::Listener, Stream<S>>;
 
-impl<'a, S: DoorSystem> TcpDoor<'a, S, S::Listener, Stream<S>> {
-    /// A door at which nobody waits yet, for the room of a file. A connection may be silent for
-    /// `keep`, and a request and its answer may each take `patience`. It explains why if it can't
-    /// be listened at, and later, if the file is no longer at its name.
+impl<'a, S: AcceptorSystem> TcpAcceptor<'a, S, S::Listener, Stream<S>> {
+    /// An acceptor at which nobody waits yet, for the room of a file. A connection may be silent
+    /// for `keep`, and a request and its answer may each take `patience`. It explains why if it
+    /// can't be listened at, and later, if the file is no longer at its name.
     pub fn new(
         system: &'a S,
         host: Host<'a>,
@@ -90,12 +90,12 @@ impl<'a, S: DoorSystem> TcpDoor<'a, S, S::Listener, Stream<S>> {
         address: SocketAddr,
         keep: Duration,
         patience: Duration,
-    ) -> SystemDoor<'a, S>
+    ) -> SystemAcceptor<'a, S>
         ensures times { (result.address ≡ address) × (result.keep ≡ keep)
             × (result.patience ≡ patience) }
         ensures deaf { is_some result.waiting ≡ false }
     {
-        TcpDoor {
+        TcpAcceptor {
             system,
             host,
             address,
@@ -107,14 +107,14 @@ impl<'a, S: DoorSystem> TcpDoor<'a, S, S::Listener, Stream<S>> {
         }
     }
 
-    // Those who wait at the door: nobody yet. It fails only as `Network`.
+    // Those who wait at the acceptor: nobody yet. It fails only as `Network`.
     fn opened(&self) -> Result<Waiting<Acceptor<'a, S, S::Listener>, Client<Stream<S>>>, Failure>
         ensures times { IfOk result (λ waiting. (waiting.keep ≡ self.now.keep)
             × (waiting.patience ≡ self.now.patience)) }
         ensures fault { IfErr result (λ fault. fault ≡ Network) }
     {
-        let door = self.system.open(self.host, self.address)?;
-        match Waiting::new(self.host.alloc, door, self.keep, self.patience) {
+        let acceptor = self.system.open(self.host, self.address)?;
+        match Waiting::new(self.host.alloc, acceptor, self.keep, self.patience) {
             Ok(waiting) => Ok(waiting),
             Err(_) => Err(Failure::Network),
         }
@@ -156,7 +156,7 @@ impl<R, W> Closing for PiecePeer<R, W> {
 }
 
 // No contract can say what is said on a socket.
-impl<'a, S: DoorSystem> Listener for TcpDoor<'a, S, S::Listener, Stream<S>> {
+impl<'a, S: AcceptorSystem> Listener for TcpAcceptor<'a, S, S::Listener, Stream<S>> {
     type Reader = Reader<'a, S>;
 
     type Writer = Writer<'a, S>;
@@ -173,7 +173,7 @@ impl<'a, S: DoorSystem> Listener for TcpDoor<'a, S, S::Listener, Stream<S>> {
 
     ghost peer_of = { λ reader writer. record { reader = reader; writer = writer } };
 
-    // Beside what every listener ensures: those who wait at the door have its times.
+    // Beside what every listener ensures: those who wait at the acceptor have its times.
     fn listen(&mut self) -> Result<(), Failure>
         ensures listens { OnOk result (is_some self.new.waiting ≡ true) }
         ensures times { OnOk result (IfSome self.new.waiting (λ waiting.
@@ -195,8 +195,8 @@ impl<'a, S: DoorSystem> Listener for TcpDoor<'a, S, S::Listener, Stream<S>> {
         self.waiting.is_some()
     }
 
-    // Beside what every listener ensures: an answer has the patience of the door and goes to the
-    // sender of the request, and nobody who waits or is to be served is lost.
+    // Beside what every listener ensures: an answer has the patience of the acceptor and goes to
+    // the sender of the request, and nobody who waits or is to be served is lost.
     fn accept(&mut self) -> Option<(Self::Reader, Self::Writer)>
         ensures listens { is_some self.new.waiting ≡ is_some self.old.waiting }
         ensures reader { IfSome result (λ sides. sides.0.failed ≡ false) }

@@ -1,2 +1,3 @@
 pub mod CallWork
 pub mod DecidedLaws
+pub mod MoveRows

@@ -3,7 +3,7 @@ ghost use Rattle.std.specs.Prelude.{◌≡◌};
 ghost use Rattle.room_model.specs.Room.{IsInOrder, Room};
 ghost use Rattle.room_model.specs.Shares.{own};
 ghost use Rattle.room_model.specs.RoomSlices.{room_of};
-ghost use Rattle.room_model.specs.Step.{DecidesAsked, desk_asks};
+ghost use Rattle.room_model.specs.Step.{DecidesAsked, single_asks};
 ghost use Rattle.room_model.specs.RoomAgreements.{IsWellFormed};
 ghost use Rattle.room_core.specs.DecisionRows.{AreRead};
 
@@ -29,10 +29,10 @@ use room_types::refusal_statuses::Refusal;
 use room_types::slices::Slice;
 use std::alloc::Global;
 
-/// What a division's desk asks. In every well-formed room of this plan the decision is the room's,
+/// What a division's desk asks in one step. In every well-formed room of this plan the decision is the room's,
 /// where the slice's rows are those that the request reads, and where they are the division's whole
-/// share. A request that is for no desk is refused as `WrongRole`. Only a list and a merge may lack
-/// memory.
+/// share. A request that is for no desk is refused as `WrongRole`, and so are moves, of which
+/// `decide_move` decides each. Only a list and a merge may lack memory.
 pub fn decide_desk(
     alloc: Global,
     plan: &Plan,
@@ -42,12 +42,12 @@ pub fn decide_desk(
 ) -> Result<Decision, Refusal>
     ensures decides { (r : Room) → IsWellFormed r → r.plan ≡ plan.now.areas
         → AreRead slice.now.division ask.now at (room_of r.plan slice.now.rows) r
-        → DecidesAsked ask.now (desk_asks slice.now.division ask.now at r) result }
+        → DecidesAsked ask.now (single_asks slice.now.division ask.now at r) result }
     // In every other room where the division has the same rows, it is that room's too.
     ensures apart { (r other : Room) → IsWellFormed r → r.plan ≡ plan.now.areas
         → AreRead slice.now.division ask.now at (room_of r.plan slice.now.rows) r
         → IsInOrder other → own slice.now.division r ≡ own slice.now.division other
-        → DecidesAsked ask.now (desk_asks slice.now.division ask.now at other) result }
+        → DecidesAsked ask.now (single_asks slice.now.division ask.now at other) result }
 {
     decide(alloc, plan, slice, ask, at)
 }
@@ -59,7 +59,7 @@ fn decide(
     ask: &Ask,
     at: Moment,
 ) -> Result<Decision, Refusal>
-    ensures { DecidesAsked ask.now (desk_asks slice.now.division ask.now at
+    ensures { DecidesAsked ask.now (single_asks slice.now.division ask.now at
         (room_of plan.now.areas slice.now.rows)) result }
 {
     match ask {
@@ -95,7 +95,7 @@ fn decide(
         Ask::Loans => loans(alloc, slice),
         Ask::Offers => offers(alloc, slice),
         Ask::Times(from, to) => day_times(alloc, slice, *from, *to),
-        Ask::Call(_) | Ask::Order | Ask::Job | Ask::Report(_) | Ask::Last => {
+        Ask::Call(_) | Ask::Moves(_) | Ask::Order | Ask::Job | Ask::Report(_) | Ask::Last => {
             Err(Refusal::WrongRole)
         }
     }

@@ -6,3 +6,4 @@ pub mod call_decisions;
 pub mod crew_decisions;
 pub mod desk_decisions;
 pub mod kept_answers;
+pub mod move_decisions;

@@ -14,6 +14,7 @@ use Rattle.room_types.specs.declared.answers.QueueEntry.{QueueEntry}
 use Rattle.room_types.specs.declared.answers.History.{History}
 use Rattle.room_types.specs.declared.answers.IncidentLine.{IncidentLine}
 use Rattle.room_types.specs.declared.answers.Job.{Job}
+use Rattle.room_types.specs.declared.answers.MoveLine.{MoveLine}
 use Rattle.room_types.specs.declared.answers.PointLine.{PointLine}
 use Rattle.room_types.specs.declared.answers.Proposal.{Proposal}
 use Rattle.room_types.specs.declared.answers.Served.{Served}
@@ -72,6 +73,14 @@ vehicle_json l =
     ∷ (codes "post", or_null whole l.post)
     ∷ (codes "shift_end", whole l.shift_end)
     ∷ (codes "status", whole (status_number l.status))
+    ∷ (codes "vehicle", string l.callsign)
+    ∷ [])
+
+-- a vehicle with its order, and none of one that was stood down
+abbrev pub move_json : MoveLine → Data
+move_json l =
+    object_of (
+    (codes "order", or_null whole l.order)
     ∷ (codes "vehicle", string l.callsign)
     ∷ [])
 
@@ -233,6 +242,7 @@ answer_json (answer.Proposals lines) =
 answer_json (answer.Incident history) = history_json history
 answer_json (answer.Mobilised order callsign) =
     object_of ((codes "order", whole order) ∷ (codes "vehicle", string callsign) ∷ [])
+answer_json (answer.Moved lines) = object_of ((codes "moves", list_of move_json lines) ∷ [])
 answer_json answer.Done = object_of ((codes "done", boolean true) ∷ [])
 answer_json (answer.Vehicles lines) =
     object_of ((codes "vehicles", list_of vehicle_json lines) ∷ [])

@@ -4,15 +4,15 @@ ghost use Rattle.room_http.specs.Objects.{Sends};
 ghost use Rattle.room_http.specs.AnswerJson.{answer_json, assignment_json, call_json};
 ghost use Rattle.room_http.specs.AnswerJson.{callsign_or_empty, content, entry_json, history_json};
 ghost use Rattle.room_http.specs.AnswerJson.{incident_json, job_json, json_of, loan_json};
-ghost use Rattle.room_http.specs.AnswerJson.{offer_json};
+ghost use Rattle.room_http.specs.AnswerJson.{move_json, offer_json};
 ghost use Rattle.room_http.specs.AnswerJson.{point_json, proposal_json, refusal_json, report_json};
 ghost use Rattle.room_http.specs.AnswerJson.{times_json, times_line_json, turn_json, vehicle_json};
 
 use crate::json_values::ToJson;
 use crate::objects::{End, Member, write_object};
 use room_types::answers::{
-    Answer, History, IncidentLine, Job, PointLine, Proposal, QueueEntry, Times, TimesLine,
-    VehicleLine,
+    Answer, History, IncidentLine, Job, MoveLine, PointLine, Proposal, QueueEntry, Times,
+    TimesLine, VehicleLine,
 };
 use room_types::callsign::Callsign;
 use room_types::refusal_statuses::Refusal;
@@ -49,6 +49,7 @@ impl ToJson for Answer {
             Answer::Incident(history) => history.write_json(out),
             Answer::Mobilised(order, callsign) =>
                 object!(out, { "order": order, "vehicle": callsign }),
+            Answer::Moved(lines) => object!(out, { "moves": lines }),
             Answer::Done => object!(out, { "done": &true }),
             Answer::Vehicles(lines) => object!(out, { "vehicles": lines }),
             Answer::Reports(reports) => object!(out, { "reports": reports }),
@@ -131,6 +132,17 @@ impl ToJson for VehicleLine {
             "post": &self.post,
             "shift_end": &self.shift_end,
             "status": &self.status,
+            "vehicle": &self.callsign,
+        })
+    }
+}
+
+impl ToJson for MoveLine {
+    ghost json = { move_json };
+
+    fn write_json<S: Serializer>(&self, out: &mut S) -> Result<(), S::Error> {
+        object!(out, {
+            "order": &self.order,
             "vehicle": &self.callsign,
         })
     }

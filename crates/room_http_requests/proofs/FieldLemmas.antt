@@ -1,8 +1,9 @@
 -- How the values in memory are seen as data: their numbers of parts, and what is read from them.
 use Rattle.std.proofs.Common.{◌≡◌, ◌≢◌, ◌∙◌, ℕ, ◌==◌, List, [], ◌∷◌, length, refl, sym, ap, arith}
-use Rattle.std.proofs.Common.{eq-eqb, Bool, true, false, cond}
+use Rattle.std.proofs.Common.{eq-eqb, Bool, true, false, cond, ◌+◌, ◌<◌, ◌≤◌}
+use Rattle.std.proofs.lemmas.Bool.Decides.{nat_tests}
 use Rattle.std.specs.List.{find}
-use Rattle.std.specs.Prelude.{String, Option, Some, None, IsUtf8, bytes_eq}
+use Rattle.std.specs.Prelude.{String, Option, Some, None, IsUtf8, bytes_eq, if◌then◌else◌, nat_le}
 use Rattle.std.specs.declared.alloc.Global.{Global}
 use Rattle.std.proofs.lemmas.Str.{utf8_valid_len-IsUtf8}
 use Rattle.std.proofs.lemmas.Slice.Eq.{bytes_eq-Decides}
@@ -15,8 +16,8 @@ use Rattle.room_types.specs.Codes.{Decodes, button_name}
 use Rattle.room_types.specs.declared.codes.Button.{Button}
 use Rattle.room_types.specs.declared.codes.Button.TheVariants.{Position, Mobile, Scene, Leave}
 use Rattle.room_types.specs.declared.codes.Button.TheVariants.{Hospital, Return, Home}
-use Rattle.room_http_requests.specs.BodyFields.{button_of, buttons, fields_of, members_count}
-use Rattle.room_http_requests.specs.BodyFields.{needs_at, needs_of}
+use Rattle.room_http_requests.specs.BodyFields.{button_of, buttons, few_at, fields_of}
+use Rattle.room_http_requests.specs.BodyFields.{items_count, members_count, needs_at, needs_of}
 
 -- the members of a map are as many as its entries
 pub members_count-view : (entries : List (String Global × Value))
@@ -89,3 +90,28 @@ pub decodes_to : (name : List ℕ) (decoded : Option Button) → Decodes button_
     → decoded ≡ button_of name
 decodes_to name (Some button) decodes = sym (own_name button) ∙ ap button_of decodes.has_it
 decodes_to name None decodes = none_is name (button_of name) refl decodes
+
+-- an array has as many items as values
+items_count-view : (values : List Value) → items_count (items_view values) ≡ length values
+items_count-view [] = refl
+items_count-view (v ∷ vs) = rw (items_count-view vs) (omega arith)
+
+-- of an array under a name, the items are given where they are few enough
+module _ (most : ℕ) (name : List ℕ) (fields value : Data) (values : List Value)
+    (under : get name fields ≡ Some value) (array : as_array value ≡ Some (items_view values)) where
+  few_if : few_at most name fields
+      ≡ (if nat_le (length values) most then Some (items_view values) else None)
+  unfolding few_at
+  few_if =
+      rw (under, array)
+      (ap (λ (n : ℕ). if nat_le n most then Some (items_view values) else None) (items_count-view values))
+
+  pub few_enough : length values ≤ most → Some (items_view values) ≡ few_at most name fields
+  few_enough h =
+      let is : nat_le (length values) most ≡ true = grind (arith, nat_tests) in
+      sym (few_if ∙ ap (λ (b : Bool). if b then Some (items_view values) else None) is)
+
+  pub too_many : most < length values → None ≡ few_at most name fields
+  too_many h =
+      let is : nat_le (length values) most ≡ false = grind (arith, nat_tests) in
+      sym (few_if ∙ ap (λ (b : Bool). if b then Some (items_view values) else None) is)

@@ -19,8 +19,8 @@ use Rattle.room_model.specs.Step.{is_crews, is_desks, is_for, is_positions}
 use Rattle.room_http_requests.specs.RequestTable.{ask_without_body, is_known, is_of, or_posted}
 use Rattle.room_http_requests.specs.RequestTable.{request_by, role_of}
 use Rattle.room_http_requests.specs.Bodies.{and_then, call_form, exactly, duty, lend, merge}
-use Rattle.room_http_requests.specs.Bodies.{mobilise, needs_change, point_form, ask_with_body}
-use Rattle.room_http_requests.specs.Bodies.{press, standby}
+use Rattle.room_http_requests.specs.Bodies.{ask_with_body, mobilise, moves, needs_change}
+use Rattle.room_http_requests.specs.Bodies.{point_form, press, standby}
 use Rattle.room_http_requests.specs.BodyFields.{fields_of, has_members, number_at, number_in}
 use Rattle.room_http_requests.specs.declared.request_table.Request.{Request}
 use Rattle.room_http_requests.specs.declared.request_table.Request.TheVariants as request
@@ -112,7 +112,7 @@ press_numbered fields =
     (λ n least. some_next _ _ _ (λ button. some_next _ _ _ (λ order. some_next _ _ _ (λ place. least)))))
 
 posted_is : (t : Target) (fields : Data) → IfSome (ask_with_body t fields) (IsAskOf t)
-unfolding mobilise needs_change merge standby duty lend point_form
+unfolding mobilise needs_change merge moves standby duty lend point_form
 posted_is target.Call fields =
     some_map (IsAskOf target.Call) (call_form fields) ask.Call
     (some_any (λ form. IsAskOf target.Call (ask.Call form)) _ (λ form. (refl, tt)))
@@ -123,6 +123,9 @@ posted_is (target.Needs n) fields =
     some_exactly (IsAskOf (target.Needs n)) _ _ _ (some_next (IsAskOf (target.Needs n)) _ _ (λ needs. (refl, tt)))
 posted_is (target.Merge n) fields =
     some_exactly (IsAskOf (target.Merge n)) _ _ _ (some_next (IsAskOf (target.Merge n)) _ _ (λ into. (refl, tt)))
+posted_is target.Moves fields =
+    some_exactly (IsAskOf target.Moves) _ _ _
+    (some_next (IsAskOf target.Moves) _ _ (λ ms. (refl, tt)))
 posted_is (target.Close n) fields = some_exactly (IsAskOf (target.Close n)) _ _ _ (refl, tt)
 posted_is (target.StandDown c) fields = some_exactly (IsAskOf (target.StandDown c)) _ _ _ (refl, tt)
 posted_is (target.Standby c) fields =

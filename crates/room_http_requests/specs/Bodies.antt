@@ -1,16 +1,20 @@
 -- What the fields of a body ask for: exactly the members named, each of its form and range.
 use Rattle.std.specs.Prelude.{ℕ, if◌then◌else◌, Option, Some, None, option_map, option_and_then}
-use Rattle.std.specs.Prelude.{codes}
-use Rattle.serde_json.specs.Data.{Data}
+use Rattle.std.specs.Prelude.{List, [], codes, ◌∷◌}
+use Rattle.serde_json.specs.Data.{Data, Items}
+use Rattle.serde_json.specs.Find.{get_item}
 use Rattle.room_types.specs.Texts.{Callsign}
 use Rattle.room_types.specs.declared.asks.Ask.{Ask}
 use Rattle.room_types.specs.declared.asks.Ask.TheVariants as ask
 use Rattle.room_types.specs.declared.asks.CallForm.{CallForm}
+use Rattle.room_types.specs.declared.asks.Move.{Move}
+use Rattle.room_types.specs.declared.asks.Moves.{Moves}
 use Rattle.room_types.specs.declared.asks.Press.{Press}
 use Rattle.room_http_requests.specs.declared.request_table.Target.{Target}
 use Rattle.room_http_requests.specs.declared.request_table.Target.TheVariants as target
-use Rattle.room_http_requests.specs.BodyFields.{button_at, callsign_at, has_members, needs_at}
-use Rattle.room_http_requests.specs.BodyFields.{note_at, number_at, place_at, point_at}
+use Rattle.room_http_requests.specs.BodyFields.{button_at, callsign_at, few_at, has_members}
+use Rattle.room_http_requests.specs.BodyFields.{incident_at, needs_at, note_at, number_at, place_at}
+use Rattle.room_http_requests.specs.BodyFields.{point_at}
 
 -- what is found next, of what was found
 unfoldable pub and_then : {A B : Type 0} → Option A → (A → Option B) → Option B
@@ -59,6 +63,48 @@ merge incident fields = exactly 1 fields (
     and_then (number_at 1 2147483647 (codes "into") fields) (λ into.
     Some (ask.Merge incident into)))
 
+-- a move: an incident or null, and a vehicle
+unfoldable pub move_in : Data → Option Move
+move_in fields = exactly 2 fields (
+    and_then (incident_at (codes "incident") fields) (λ incident.
+    and_then (callsign_at (codes "vehicle") fields) (λ vehicle.
+    Some (record { callsign = vehicle; incident = incident }))))
+
+-- the move at a place, or none where nothing stands there
+abbrev pub move_if : Option Data → Option (Option Move)
+move_if None = Some None
+move_if (Some value) = option_map Some (move_in value)
+
+unfoldable pub move_at : ℕ → Items → Option (Option Move)
+move_at place items = move_if (get_item place items)
+
+-- one move at least
+unfoldable pub moves_in : Items → Option Moves
+moves_in items =
+    and_then (move_at 0 items) (λ first.
+    and_then first (λ first.
+    and_then (move_at 1 items) (λ a.
+    and_then (move_at 2 items) (λ b.
+    and_then (move_at 3 items) (λ c.
+    and_then (move_at 4 items) (λ d.
+    and_then (move_at 5 items) (λ e.
+    and_then (move_at 6 items) (λ f.
+    and_then (move_at 7 items) (λ g.
+    Some (record {
+      first = first;
+      others = a ∷ b ∷ c ∷ d ∷ e ∷ f ∷ g ∷ [];
+    }))))))))))
+
+-- the moves under a name, eight at most
+unfoldable pub moves_at : List ℕ → Data → Option Moves
+moves_at name fields = and_then (few_at 8 name fields) (λ items. moves_in items)
+
+-- moves
+unfoldable pub moves : Data → Option Ask
+moves fields = exactly 1 fields (
+    and_then (moves_at (codes "moves") fields) (λ ms.
+    Some (ask.Moves ms)))
+
 -- a vehicle to a standby point, or to none
 unfoldable pub standby : Callsign → Data → Option Ask
 standby vehicle fields = exactly 1 fields (
@@ -101,6 +147,7 @@ ask_with_body target.Call fields = option_map ask.Call (call_form fields)
 ask_with_body (target.Mobilise n) fields = mobilise n fields
 ask_with_body (target.Needs n) fields = needs_change n fields
 ask_with_body (target.Merge n) fields = merge n fields
+ask_with_body target.Moves fields = moves fields
 ask_with_body (target.Close n) fields = no_fields (ask.Close n) fields
 ask_with_body (target.StandDown c) fields = no_fields (ask.StandDown c) fields
 ask_with_body (target.Standby c) fields = standby c fields

@@ -112,3 +112,23 @@ point_of value =
 -- the standby point under a name
 unfoldable pub point_at : List ℕ → Data → Option (Option ℕ)
 point_at name fields = option_and_then point_of (get name fields)
+
+-- the incident that a value is the number of, or none where it is null
+abbrev pub incident_of : Data → Option (Option ℕ)
+incident_of value =
+    if is_some (as_null value) then Some None else option_map Some (number_in 1 2147483647 value)
+
+-- the incident under a name
+unfoldable pub incident_at : List ℕ → Data → Option (Option ℕ)
+incident_at name fields = option_and_then incident_of (get name fields)
+
+-- how many items there are
+abbrev pub items_count : Items → ℕ
+items_count no_items = 0
+items_count (item value more) = 1 + items_count more
+
+-- the array under a name, of at most so many items
+unfoldable pub few_at : ℕ → List ℕ → Data → Option Items
+few_at most name fields =
+    option_and_then (λ items. if nat_le (items_count items) most then Some items else None)
+    (option_and_then as_array (get name fields))

@@ -53,6 +53,7 @@ incident_names =
 abbrev pub vehicle_names : List (List ℕ × Target)
 vehicle_names =
     (codes "/vehicles", target.Vehicles) ∷
+    (codes "/moves", target.Moves) ∷
     (codes "/vehicles/A1/standdown", target.StandDown (codes "A1")) ∷
     (codes "/vehicles/A1/standby", target.Standby (codes "A1")) ∷
     (codes "/vehicles/A1/duty", target.Duty (codes "A1")) ∷
@@ -125,6 +126,7 @@ stray_numbers =
 abbrev pub stray_vehicles : List (List ℕ)
 stray_vehicles =
     codes "/vehicles/A1" ∷
+    codes "/moves/" ∷
     codes "/vehicles/a1/off" ∷
     codes "/vehicles/A123456789/off" ∷
     codes "/vehicles/A 1/off" ∷
@@ -174,6 +176,7 @@ requests =
     ((codes "BREW", codes "/points/100"), Err NoPath) ∷
     ((codes "GET", codes "/incidents/1"), Err NoPath) ∷
     ((codes "GET", codes "/vehicles/A1/reports"), Err NoPath) ∷
+    ((codes "POST", codes "/moves"), Err NoPath) ∷
     ((codes "GET", codes "/job"), Err NoPath) ∷
     ((codes "POST", codes "/last"), Err NoPath) ∷
     []
@@ -184,6 +187,8 @@ history_requests =
     ((codes "GET", codes "/incidents/1"), Ok (target.Incident 1)) ∷
     ((codes "GET", codes "/vehicles/A1/reports"), Ok (target.Reports (codes "A1"))) ∷
     ((codes "POST", codes "/vehicles/A1/reports"), Err (WrongMethod GetHead)) ∷
+    ((codes "POST", codes "/moves"), Ok target.Moves) ∷
+    ((codes "GET", codes "/moves"), Err (WrongMethod Post)) ∷
     ((codes "GET", codes "/job"), Ok target.Job) ∷
     ((codes "POST", codes "/job"), Err (WrongMethod GetHead)) ∷
     ((codes "HEAD", codes "/last"), Ok target.Last) ∷

@@ -1,17 +1,20 @@
 //! What the fields of a body ask for, of each target that takes a body.
 ghost use Rattle.std.specs.Prelude.{◌≡◌};
-ghost use Rattle.serde_json.specs.View.{view};
-ghost use Rattle.room_http_requests.specs.Bodies.{ask_with_body, call_form, exactly, press};
+ghost use Rattle.serde_json.specs.View.{items_view, view};
+ghost use Rattle.room_http_requests.specs.Bodies.{ask_with_body, call_form, exactly, move_at};
+ghost use Rattle.room_http_requests.specs.Bodies.{move_in, moves_at, press};
 
-use crate::body_fields::{button, callsign, has_members, needs, number, place, point};
+use crate::body_fields::{
+    button, callsign, few, has_members, incident, needs, number, place, point,
+};
 use crate::request_table::Target;
-use room_types::asks::{Ask, CallForm, Press};
+use room_types::asks::{Ask, CallForm, MORE_MOVES, Move, Moves, Press};
 use room_types::note::Note;
 use serde_json::Value;
 
 /// What the fields ask for of a target that takes a body: none where they are not exactly those
 /// that the target takes, each of its form, and none for a target that takes no body.
-#[tactic(auto, unfolding(crate::specs::Bodies::mobilise, crate::specs::Bodies::needs_change, crate::specs::Bodies::merge, crate::specs::Bodies::standby, crate::specs::Bodies::duty, crate::specs::Bodies::lend, crate::specs::Bodies::point_form, crate::specs::Bodies::exactly, crate::specs::Bodies::and_then))]
+#[tactic(auto, unfolding(crate::specs::Bodies::mobilise, crate::specs::Bodies::needs_change, crate::specs::Bodies::merge, crate::specs::Bodies::moves, crate::specs::Bodies::standby, crate::specs::Bodies::duty, crate::specs::Bodies::lend, crate::specs::Bodies::point_form, crate::specs::Bodies::exactly, crate::specs::Bodies::and_then))]
 pub(crate) fn ask_with_body(target: &Target, fields: &Value) -> Option<Ask>
     ensures { result ≡ ask_with_body target.now (view fields.now) }
 {
@@ -23,6 +26,7 @@ pub(crate) fn ask_with_body(target: &Target, fields: &Value) -> Option<Ask>
         Target::Mobilise(incident) => Some(Ask::Mobilise(incident, callsign(fields, "vehicle")?)),
         Target::Needs(incident) => Some(Ask::Needs(incident, needs(fields, "needs")?)),
         Target::Merge(incident) => Some(Ask::Merge(incident, number(fields, "into")?)),
+        Target::Moves => Some(Ask::Moves(moves(fields, "moves")?)),
         Target::Close(incident) => Some(Ask::Close(incident)),
         Target::StandDown(vehicle) => Some(Ask::StandDown(vehicle)),
         Target::Standby(vehicle) => Some(Ask::Standby(vehicle, point(fields, "point")?)),
@@ -74,5 +78,51 @@ fn press(fields: &Value) -> Option<Press>
         button: button(fields, "button")?,
         order: number(fields, "order")?,
         place: place(fields, "place")?,
+    })
+}
+
+/// The moves under a name: one at least, and eight at most.
+#[tactic(auto, unfolding(crate::specs::Bodies::moves_at, crate::specs::Bodies::moves_in, crate::specs::Bodies::and_then))]
+pub(crate) fn moves(fields: &Value, name: &str) -> Option<Moves>
+    ensures { result ≡ moves_at name.now (view fields.now) }
+{
+    let items = few(fields, name, MORE_MOVES + 1)?;
+    Some(Moves {
+        first: move_at(items, 0)??,
+        others: [
+            move_at(items, 1)?,
+            move_at(items, 2)?,
+            move_at(items, 3)?,
+            move_at(items, 4)?,
+            move_at(items, 5)?,
+            move_at(items, 6)?,
+            move_at(items, 7)?,
+        ],
+    })
+}
+
+/// The move at a place: `Some(None)` where nothing stands there.
+#[tactic(auto, unfolding(crate::specs::Bodies::move_at))]
+fn move_at(items: &[Value], place: usize) -> Option<Option<Move>>
+    ensures { result ≡ move_at place (items_view items.now) }
+{
+    match items.get(place) {
+        Some(fields) => Some(Some(move_in(fields)?)),
+        None => Some(None),
+    }
+}
+
+/// A move: its incident, or null, and its vehicle, which are its two fields.
+#[tactic(auto, unfolding(crate::specs::Bodies::move_in, crate::specs::Bodies::exactly, crate::specs::Bodies::and_then))]
+fn move_in(fields: &Value) -> Option<Move>
+    ensures { result ≡ move_in (view fields.now) }
+{
+    if !has_members(fields, 2) {
+        return None;
+    }
+    let incident = incident(fields, "incident")?;
+    Some(Move {
+        callsign: callsign(fields, "vehicle")?,
+        incident,
     })
 }

@@ -1,5 +1,6 @@
 //! What is wrong with a body that is refused, in words.
 
+use crate::bodies::moves;
 use crate::body_fields::{button, callsign, fields_of, needs, number, place, point};
 use crate::request_table::Target;
 use room_place::bounded_numbers::Bounded;
@@ -71,6 +72,7 @@ fn fault_in(target: &Target, fields: &Value) -> Option<BodyFault> {
         Target::Mobilise(_) => vehicle_fault(fields),
         Target::Needs(_) => needs_fault(fields),
         Target::Merge(_) => number_fault(fields, "into"),
+        Target::Moves => moves_fault(fields),
         Target::Standby(_) => point_fault(fields),
         Target::Duty(_) => place_fault(fields).or(until_fault(fields)),
         Target::Lend(_) => division_fault(fields).or(until_fault(fields)),
@@ -135,6 +137,12 @@ fn place_fault(fields: &Value) -> Option<BodyFault> {
 fn vehicle_fault(fields: &Value) -> Option<BodyFault> {
     let is_good = callsign(fields, "vehicle").is_some();
     unless(is_good, fields, "vehicle", "1 to 8 of A-Z and 0-9")
+}
+
+fn moves_fault(fields: &Value) -> Option<BodyFault> {
+    let is_good = moves(fields, "moves").is_some();
+    let form = "an array of 1 to 8 objects with an incident, or null, and a vehicle";
+    unless(is_good, fields, "moves", form)
 }
 
 fn needs_fault(fields: &Value) -> Option<BodyFault> {

@@ -1,18 +1,19 @@
 //! The fields of a body: an object of JSON, and the values under its names.
 ghost use Rattle.std.specs.Prelude.{◌≡◌, MatchResult, Some, None, ◌⊎◌};
 ghost use Rattle.serde_json.specs.Data.{object};
-ghost use Rattle.serde_json.specs.View.{view};
+ghost use Rattle.serde_json.specs.View.{items_view, view};
+ghost use Rattle.std.specs.Option.{option_map};
 ghost use Rattle.room_types.specs.declared.refusal_statuses.Refusal.TheVariants.{BadBody, Memory};
-ghost use Rattle.room_http_requests.specs.BodyFields.{button_at, callsign_at, fields_of};
-ghost use Rattle.room_http_requests.specs.BodyFields.{has_members, needs_at, needs_of, number_at};
-ghost use Rattle.room_http_requests.specs.BodyFields.{number_in, place_at, point_at};
+ghost use Rattle.room_http_requests.specs.BodyFields.{button_at, callsign_at, few_at, fields_of};
+ghost use Rattle.room_http_requests.specs.BodyFields.{has_members, incident_at, needs_at, needs_of};
+ghost use Rattle.room_http_requests.specs.BodyFields.{number_at, number_in, place_at, point_at};
 
 use room_place::bounded_numbers::Bounded;
 use room_place::places::Place;
 use room_types::callsign::Callsign;
 use room_types::codes::Button;
 use room_types::needs::{Counts, Needs};
-use room_types::numbers::{Need, PointNumber};
+use room_types::numbers::{Need, Number, PointNumber};
 use room_types::refusal_statuses::Refusal;
 use serde_json::{Map, Value};
 use std::alloc::Global;
@@ -120,4 +121,30 @@ pub(crate) fn point(fields: &Value, name: &str) -> Option<Option<PointNumber>>
         return Some(None);
     }
     number_in(value).map(Some)
+}
+
+/// The incident under a name: `Some(None)` where it is null.
+#[tactic(auto, unfolding(crate::specs::BodyFields::incident_at))]
+pub(crate) fn incident(fields: &Value, name: &str) -> Option<Option<Number>>
+    ensures { result ≡ incident_at name.now (view fields.now) }
+{
+    let value = fields.get(name)?;
+    if value.is_null() {
+        return Some(None);
+    }
+    number_in(value).map(Some)
+}
+
+/// The items of the array under a name, of which there are at most so many.
+#[tactic(auto, unfolding(crate::specs::BodyFields::few_at))]
+pub(crate) fn few<'a>(fields: &'a Value, name: &str, most: usize) -> Option<&'a [Value]>
+    ensures { option_map (λ items. items_view items.now) result
+        ≡ few_at most name.now (view fields.now) }
+{
+    let items = fields.get(name)?.as_array()?.as_slice();
+    if items.len() <= most {
+        Some(items)
+    } else {
+        None
+    }
 }

@@ -27,6 +27,7 @@ pub enum Path {
     Merge,
     Close,
     Vehicles,
+    Moves,
     StandDown,
     Standby,
     Duty,
@@ -52,7 +53,7 @@ pub enum Path {
 }
 
 /// All paths.
-pub const PATHS: [Path; 31] = [
+pub const PATHS: [Path; 32] = [
     Path::Call,
     Path::Incidents,
     Path::Incident,
@@ -62,6 +63,7 @@ pub const PATHS: [Path; 31] = [
     Path::Merge,
     Path::Close,
     Path::Vehicles,
+    Path::Moves,
     Path::StandDown,
     Path::Standby,
     Path::Duty,
@@ -101,6 +103,7 @@ impl Path {
             Path::Merge => "/incidents/{n}/merge",
             Path::Close => "/incidents/{n}/close",
             Path::Vehicles => "/vehicles",
+            Path::Moves => "/moves",
             Path::StandDown => "/vehicles/{c}/standdown",
             Path::Standby => "/vehicles/{c}/standby",
             Path::Duty => "/vehicles/{c}/duty",
@@ -149,6 +152,7 @@ impl Path {
             | Path::Needs
             | Path::Merge
             | Path::Close
+            | Path::Moves
             | Path::StandDown
             | Path::Standby
             | Path::Duty
@@ -171,7 +175,7 @@ impl Path {
     {
         matches!(
             self,
-            Path::Incident | Path::Reports | Path::Job | Path::Last
+            Path::Incident | Path::Moves | Path::Reports | Path::Job | Path::Last
         )
     }
 }
@@ -188,6 +192,7 @@ pub enum Target {
     Merge(Number),
     Close(Number),
     Vehicles,
+    Moves,
     StandDown(Callsign),
     Standby(Callsign),
     Duty(Callsign),
@@ -229,6 +234,7 @@ impl Target {
             Path::Merge => Some(Target::Merge(whole(parameter)?)),
             Path::Close => Some(Target::Close(whole(parameter)?)),
             Path::Vehicles => Some(Target::Vehicles),
+            Path::Moves => Some(Target::Moves),
             Path::StandDown => Some(Target::StandDown(Callsign::parse(parameter)?)),
             Path::Standby => Some(Target::Standby(Callsign::parse(parameter)?)),
             Path::Duty => Some(Target::Duty(Callsign::parse(parameter)?)),
@@ -266,7 +272,11 @@ impl Target {
             Target::Call => 5,
             Target::Report => 4,
             Target::Duty(_) | Target::Lend(_) | Target::SetPoint(_) => 2,
-            Target::Mobilise(_) | Target::Needs(_) | Target::Merge(_) | Target::Standby(_) => 1,
+            Target::Mobilise(_)
+            | Target::Needs(_)
+            | Target::Merge(_)
+            | Target::Moves
+            | Target::Standby(_) => 1,
             _ => 0,
         }
     }

@@ -77,6 +77,7 @@ use Rattle.room_laws.proofs.Effects.{VehicleStep, by_any, by_own, class_left, cl
 use Rattle.room_laws.proofs.Effects.{effects_join, free_still, idle_still, incident_in, is_loan_of}
 use Rattle.room_laws.proofs.Effects.{is_offer_of, no_next, off_still, off_unfree, offered_still}
 use Rattle.room_laws.proofs.Effects.{offered_unfree, posted_free, same_self, turn_at, vehicle_in}
+use Rattle.room_laws.proofs.Steps.{IsSingle, is_single}
 use Rattle.room_laws.specs.Exceptions.{Concern, OutOfTurn, Overdue, ShiftOver, LateForScene}
 use Rattle.room_laws.specs.Exceptions.{Unanswered, Uncovered, Unacknowledged, Unserved}
 
@@ -564,25 +565,27 @@ module _ (r : Room) (w : IsWellFormed r) where
   unfolding clear
   clears d c n at = cleared_report d c n at (report_of d c n r) refl
 
-  desk_effects : (d : ℕ) (a : Ask) (at : ℕ) → Holds (by_desk d a at) (desk_asks d a at r)
-  desk_effects d (ask.Mobilise n c) at = sends d n c at
-  desk_effects d (ask.Needs n needs) at = needed d n at needs
-  desk_effects d (ask.Merge n m) at = merges d n m at
-  desk_effects d (ask.Close n) at = closes d n at
-  desk_effects d (ask.StandDown c) at = stands_down d c at
-  desk_effects d (ask.Standby c p) at = stands d c p at
-  desk_effects d (ask.Duty c place until) at = begins d c place until at
-  desk_effects d (ask.Off c) at = goes_off d c at
-  desk_effects d (ask.Lend c to until) at = offers d c to until at
-  desk_effects d (ask.Withdraw c) at = withdraws d c at
-  desk_effects d (ask.Decline c) at = declines d c at
-  desk_effects d (ask.Accept c) at = accepts d c at
-  desk_effects d (ask.Recall c) at = recalls d c at
-  desk_effects d (ask.GiveBack c) at = gives_back d c at
-  desk_effects d (ask.Clear c n) at = clears d c n at
-  desk_effects d (ask.SetPoint n place cover) at =
+  desk_effects : (d : ℕ) (a : Ask) (at : ℕ) → is_single (Desk d) a ≡ true
+      → Holds (by_desk d a at) (desk_asks d a at r)
+  desk_effects d (ask.Mobilise n c) at h = sends d n c at
+  desk_effects d (ask.Needs n needs) at h = needed d n at needs
+  desk_effects d (ask.Merge n m) at h = merges d n m at
+  desk_effects d (ask.Close n) at h = closes d n at
+  desk_effects d (ask.Moves ms) at h = cc
+  desk_effects d (ask.StandDown c) at h = stands_down d c at
+  desk_effects d (ask.Standby c p) at h = stands d c p at
+  desk_effects d (ask.Duty c place until) at h = begins d c place until at
+  desk_effects d (ask.Off c) at h = goes_off d c at
+  desk_effects d (ask.Lend c to until) at h = offers d c to until at
+  desk_effects d (ask.Withdraw c) at h = withdraws d c at
+  desk_effects d (ask.Decline c) at h = declines d c at
+  desk_effects d (ask.Accept c) at h = accepts d c at
+  desk_effects d (ask.Recall c) at h = recalls d c at
+  desk_effects d (ask.GiveBack c) at h = gives_back d c at
+  desk_effects d (ask.Clear c n) at h = clears d c n at
+  desk_effects d (ask.SetPoint n place cover) at h =
       (by_own d d (ask.SetPoint n place cover) (Uncovered n) refl (eq-eqb n n refl), tt)
-  desk_effects d a at =
+  desk_effects d a at h =
       by_quiet at r (Effects (EndsBy (by_desk d a at) r (answer_of (desk_asks d a at r))) r) (Desk d) a refl tt
 
   -- ---- calls
@@ -782,14 +785,14 @@ module _ (r : Room) (w : IsWellFormed r) where
   crew_effects c a at =
       by_quiet at r (Effects (EndsBy (by_crew c a at) r (answer_of (who_asks (Crew c) a at r))) r) (Crew c) a refl tt
 
-pub event_effects : (e : Event) (r : Room) → IsWellFormed r
+pub event_effects : (e : Event) (r : Room) → IsWellFormed r → IsSingle e
     → Effects (EndsBy e r (answer_to e r)) r (changes_of (decided e r))
-event_effects e r w = by_who e.who e.ask e.at
+event_effects e r w single = by_who e.who e.ask e.at single
   where
-    by_who : (who : Who) (a : Ask) (at : ℕ)
+    by_who : (who : Who) (a : Ask) (at : ℕ) → is_single who a ≡ true
         → Effects
         (EndsBy (record { who = who; ask = a; at = at }) r (answer_to (record { who = who; ask = a; at = at }) r)) r
         (changes_of (decided (record { who = who; ask = a; at = at }) r))
-    by_who (Desk d) a at = desk_effects r w d a at
-    by_who (Position p) a at = position_effects r w p a at
-    by_who (Crew c) a at = crew_effects r w c a at
+    by_who (Desk d) a at h = desk_effects r w d a at h
+    by_who (Position p) a at h = position_effects r w p a at
+    by_who (Crew c) a at h = crew_effects r w c a at

@@ -9,4 +9,5 @@ pub mod OrderSteps
 pub mod OrdersLeft
 pub mod OrdersReach
 pub mod Stays
+pub mod Steps
 pub mod UrgentQueues

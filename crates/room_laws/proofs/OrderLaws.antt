@@ -14,6 +14,7 @@ use Rattle.room_types.specs.declared.asks.Event.{Event}
 use Rattle.room_types.specs.declared.tables.Assignment.{Assignment}
 use Rattle.room_model.proofs.KeptEvents.{addressed_still, event_kept}
 use Rattle.room_model.proofs.OpenTurns.{row_there}
+use Rattle.room_model.proofs.Runs.{AreWellFormed}
 use Rattle.room_model.proofs.Tests.{is_equal, row_among}
 use Rattle.room_model.specs.Decisions.{changes_of}
 use Rattle.room_model.specs.Events.{AreAddressed}
@@ -24,7 +25,8 @@ use Rattle.room_model.specs.Run.{room_run}
 use Rattle.room_model.specs.Step.{decided, room_after}
 use Rattle.room_laws.proofs.OrderEnds.{ended_drops}
 use Rattle.room_laws.proofs.OrderSteps.{Moves, event_moves}
-use Rattle.room_laws.specs.Happens.{Happens}
+use Rattle.room_laws.proofs.Steps.{AreSingle, IsSingle, steps_met, steps_run, steps_single}
+use Rattle.room_laws.specs.Happens.{Happens, HappensIn, HoldsIn, steps_of}
 use Rattle.room_laws.specs.Orders.{AreKept, EndsOrder, IsSent}
 
 abbrev AreKeyed : List Assignment → Type 0
@@ -98,8 +100,8 @@ module _ (xs : List Assignment) (h : AreKeyed xs) (a : Assignment) where
       let clash : None ≡ Some a = sym none_here ∙ some_here in
       absurd (let none_some : ⊥ = cc in none_some)
 
--- ---- one event
-module _ (e : Event) (r : Room) (w : IsWellFormed r) where
+-- ---- one step
+module _ (e : Event) (r : Room) (w : IsWellFormed r) (single : IsSingle e) where
   given_by : (a : Assignment) (after : List Assignment) → Moves e r after → Among a after
       → Among a r.assignments ⊎ IsSent e r a
   given_by a after (inl same) here = inl (subst (Among a) same here)
@@ -124,13 +126,68 @@ module _ (e : Event) (r : Room) (w : IsWellFormed r) where
         | inr gone ↦ inr (is.ended a here gone)
       ]
 
-  pub orders_kept : AreKept e r
-  orders_kept = record {
-    given = λ a here. given_by a (room_after e r).assignments (event_moves r w e) here;
-    stays = λ a here. stays_by a (room_after e r).assignments (event_moves r w e) here;
-    ends = λ a here ended still.
-        drop_ends r.assignments w.order.assignments a (subst (Among a) (ended_drops r w a here e ended) still);
-  }
+  pub given_by_step : (a : Assignment) → Among a (room_after e r).assignments
+      → Among a r.assignments ⊎ IsSent e r a
+  given_by_step a here = given_by a (room_after e r).assignments (event_moves r w e single) here
+
+  pub stays_by_step : (a : Assignment) → Among a r.assignments
+      → Among a (room_after e r).assignments ⊎ EndsOrder e r a
+  stays_by_step a here = stays_by a (room_after e r).assignments (event_moves r w e single) here
+
+  pub ended_by_step : (a : Assignment) → Among a r.assignments → EndsOrder e r a
+      → Among a (room_after e r).assignments → ⊥
+  ended_by_step a here ended still =
+      drop_ends r.assignments w.order.assignments a (subst (Among a) (ended_drops r w a here e ended) still)
+
+-- ---- some steps
+module _ (a : Assignment) where
+  given_steps : (es : List Event) (r : Room) → AreWellFormed es r → AreSingle es
+      → Among a (room_run es r).assignments
+      → Among a r.assignments ⊎ HappensIn (λ step now. IsSent step now a) es r
+  given_steps [] r met single here = inl here
+  given_steps (e ∷ es) r met single here =
+      elim (given_steps es (room_after e r) met.1 single.1 here) [
+        | inr later ↦ inr (inr later)
+        | inl now ↦ elim (given_by_step e r met.0 single.0 a now) [
+          | inl old ↦ inl old
+          | inr sent ↦ inr (inl sent)
+        ]
+      ]
+
+  stays_steps : (es : List Event) (r : Room) → AreWellFormed es r → AreSingle es
+      → Among a r.assignments
+      → Among a (room_run es r).assignments ⊎ HappensIn (λ step now. EndsOrder step now a) es r
+  stays_steps [] r met single here = inl here
+  stays_steps (e ∷ es) r met single here = elim (stays_by_step e r met.0 single.0 a here) [
+    | inr ended ↦ inr (inl ended)
+    | inl still ↦ elim (stays_steps es (room_after e r) met.1 single.1 still) [
+      | inl last ↦ inl last
+      | inr later ↦ inr (inr later)
+    ]
+  ]
+
+  ended_steps : (es : List Event) (r : Room) → AreWellFormed es r → AreSingle es
+      → HoldsIn (λ step now. Among a now.assignments → EndsOrder step now a
+      → Among a (room_after step now).assignments → ⊥) es r
+  ended_steps [] r met single = tt
+  ended_steps (e ∷ es) r met single =
+      (ended_by_step e r met.0 single.0 a, ended_steps es (room_after e r) met.1 single.1)
+
+-- ---- one event
+pub orders_kept : (e : Event) (r : Room) → IsWellFormed r → AreKept e r
+orders_kept e r w =
+    let steps = steps_of e r in
+    let met = steps_met e r w in
+    let single = steps_single e r in
+    record {
+      given = λ a here.
+          given_steps a steps r met single (subst (λ s. Among a s.assignments) (steps_run e r) here);
+      stays = λ a here.
+          subst
+          (λ s. Among a s.assignments ⊎ HappensIn (λ step now. EndsOrder step now a) steps r)
+          (sym (steps_run e r)) (stays_steps a steps r met single here);
+      ends = λ a. ended_steps a steps r met single;
+    }
 
 -- ---- a run
 pub given_in : (events : List Event) (r : Room) (a : Assignment) → IsWellFormed r
@@ -141,7 +198,10 @@ given_in (e ∷ events) r a w known here =
     elim (given_in events (room_after e r) a (event_kept e r w known.0 known.1)
     (addressed_still events r (changes_of (decided e r)) known.2) here) [
       | inr later ↦ inr (inr later)
-      | inl now ↦ elim ((orders_kept e r w).given a now) [ inl old ↦ inl old | inr sent ↦ inr (inl sent) ]
+      | inl now ↦ elim ((orders_kept e r w).given a now) [
+        | inl old ↦ inl old
+        | inr sent ↦ inr (inl sent)
+      ]
     ]
 
 pub stays_in : (events : List Event) (r : Room) (a : Assignment) → IsWellFormed r

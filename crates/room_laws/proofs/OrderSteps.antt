@@ -1,4 +1,4 @@
--- What one event does to the list of orders: nothing, one put, or one drop.
+-- What one step does to the list of orders: nothing, one put, or one drop.
 use Rattle.std.proofs.Common.{ap, eqb-true, inl, inr, leb-false, subst, sym, ◌∙◌}
 use Rattle.std.specs.Prelude.{Bool, List, None, Option, Some, [], cond, false, nat_le, nat_lt, not}
 use Rattle.std.specs.Prelude.{refl, true, ℕ, ◌&&◌, ◌++◌, ◌==◌, ◌∷◌, ◌≡◌, ◌⊎◌}
@@ -47,6 +47,7 @@ use Rattle.room_model.specs.Step.{desk_asks, room_after}
 use Rattle.room_model.specs.Vehicles.{assignment_row, mobilise, mobilise_held, mobilised}
 use Rattle.room_model.specs.Vehicles.{stand_down, stand_down_held, turn_stood_down}
 use Rattle.room_laws.proofs.OrdersLeft.{desk_leaves, position_leaves}
+use Rattle.room_laws.proofs.Steps.{IsSingle, is_single}
 use Rattle.room_laws.specs.Orders.{EndsOrder, IsSent}
 use Rattle.room_types.specs.declared.answers.Answer.TheVariants as answer
 use Rattle.room_types.specs.declared.asks.Ask.TheVariants as ask
@@ -222,10 +223,12 @@ module _ (r : Room) (w : IsWellFormed r) where
         dropped = stood_down_after r at (open_turn d c r) v.callsign (record v { status = Returning });
       }))))
 
-  desk_moves : (d : ℕ) (a : Ask) (at : ℕ) → Moves (by_desk d a at) r (After (desk_asks d a at r))
-  desk_moves d (ask.Mobilise n c) at = mobilise_moves d n c at
-  desk_moves d (ask.StandDown c) at = stand_down_moves d c at
-  desk_moves d a at = inl (desk_leaves r d a at refl)
+  desk_moves : (d : ℕ) (a : Ask) (at : ℕ) → is_single (Desk d) a ≡ true
+      → Moves (by_desk d a at) r (After (desk_asks d a at r))
+  desk_moves d (ask.Mobilise n c) at h = mobilise_moves d n c at
+  desk_moves d (ask.Moves ms) at h = cc
+  desk_moves d (ask.StandDown c) at h = stand_down_moves d c at
+  desk_moves d a at h = inl (desk_leaves r d a at refl)
 
   -- ---- a crew reports
   module _ (c : Callsign) (p : Press) (at : ℕ) (new : kept_report c p.number r ≡ None) where
@@ -305,11 +308,11 @@ module _ (r : Room) (w : IsWellFormed r) where
   crew_moves c (ask.Report p) at = report_moves c p at (kept_report c p.number r) refl refl
   crew_moves c a at = inl (by_quiet at r (λ cs. (apply r cs).assignments ≡ r.assignments) (Crew c) a refl refl)
 
-  who_moves : (who : Who) (a : Ask) (at : ℕ)
+  who_moves : (who : Who) (a : Ask) (at : ℕ) → is_single who a ≡ true
       → let e : Event = record { who = who; ask = a; at = at } in Moves e r (room_after e r).assignments
-  who_moves (Desk d) a at = desk_moves d a at
-  who_moves (Position p) a at = inl (position_leaves r p a at)
-  who_moves (Crew c) a at = crew_moves c a at
+  who_moves (Desk d) a at h = desk_moves d a at h
+  who_moves (Position p) a at h = inl (position_leaves r p a at)
+  who_moves (Crew c) a at h = crew_moves c a at
 
-  pub event_moves : (e : Event) → Moves e r (room_after e r).assignments
-  event_moves e = who_moves e.who e.ask e.at
+  pub event_moves : (e : Event) → IsSingle e → Moves e r (room_after e r).assignments
+  event_moves e h = who_moves e.who e.ask e.at h

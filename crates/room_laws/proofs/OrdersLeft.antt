@@ -34,6 +34,7 @@ use Rattle.room_types.specs.declared.refusal_statuses.Refusal.TheVariants as ref
 -- the asks of a desk that give an order or take one back
 abbrev pub moves_orders : Ask → Bool
 moves_orders (ask.Mobilise n c) = true
+moves_orders (ask.Moves ms) = true
 moves_orders (ask.StandDown c) = true
 moves_orders a = false
 
@@ -95,6 +96,7 @@ module _ (r : Room) where
       → Leaves (desk_asks d a at r)
   unfolding change_needs merge close standby duty off lend withdraw decline accept recall give_back clear
   desk_leaves d (ask.Mobilise n c) at h = cc
+  desk_leaves d (ask.Moves ms) at h = cc
   desk_leaves d (ask.StandDown c) at h = cc
   desk_leaves d (ask.Needs n needs) at h =
       by_incident (incident_of d n r) (needs_changed needs (λ k. served d n k r)) (λ i. refuse _ _ _ refl)

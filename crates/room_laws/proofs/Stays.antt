@@ -24,12 +24,12 @@ use Rattle.room_model.proofs.OpenTurns.{row_there}
 use Rattle.room_model.proofs.Tests.{among_filter, both_true, left_true, or_left, or_right}
 use Rattle.room_model.proofs.Tests.{right_true, row_key}
 use Rattle.room_model.specs.Decisions.{changes_of}
-use Rattle.room_model.specs.Events.{AreAddressed}
+use Rattle.room_model.specs.Events.{AreAddressed, IsNumbered}
 use Rattle.room_model.specs.Queries.{counts, has_post, holders, incident_of, is_eligible}
 use Rattle.room_model.specs.Room.{Room, apply}
 use Rattle.room_model.specs.RoomAgreements.{IsWellFormed}
 use Rattle.room_model.specs.Run.{room_run}
-use Rattle.room_model.specs.Step.{answer_to, decided, room_after}
+use Rattle.room_model.specs.Step.{IsAddressed, answer_to, decided, room_after}
 use Rattle.room_laws.proofs.AskEffects.{event_effects}
 use Rattle.room_laws.proofs.Causes.{Has, HasOverdue, HasReport, HasShiftOver, HasLate}
 use Rattle.room_laws.proofs.Causes.{HasUnanswered, HasUncovered, HasUnacknowledged, HasUnserved}
@@ -39,9 +39,11 @@ use Rattle.room_laws.proofs.Effects.{Effects, EndsBy, posted_free, turn_at}
 use Rattle.room_laws.proofs.Kept.{incident_kept, loan_stays, offer_stays, point_stays, posted_kept}
 use Rattle.room_laws.proofs.Kept.{report_stays, serving_kept, shift_kept, late_kept}
 use Rattle.room_laws.proofs.Kept.{unacknowledged_kept, way_kept}
+use Rattle.room_laws.proofs.Steps.{AreSingle, IsSingle, steps_addressed, steps_run, steps_single}
 use Rattle.room_laws.specs.Exceptions.{Concern, Ends, IsDue, IsEnded, OutOfTurn, Overdue, ShiftOver}
 use Rattle.room_laws.specs.Exceptions.{LateForScene, Unanswered, Uncovered, Unacknowledged}
 use Rattle.room_laws.specs.Exceptions.{Unserved, is_ended_by, is_unclassed, loses_class}
+use Rattle.room_laws.specs.Happens.{HappensIn, steps_of}
 
 -- ---- counts of rows by their keys
 module _ {R K : Type 0} (cmp : K → K → Ordering) (key : R → K) (total : IsTotalOrder cmp) where
@@ -192,7 +194,7 @@ later d m t r le (Unanswered n c) h = record {
 }
 
 -- ---- over one event
-module _ (d m : ℕ) (e : Event) (r : Room) (w : IsWellFormed r) where
+module _ (d m : ℕ) (e : Event) (r : Room) (w : IsWellFormed r) (single : IsSingle e) where
   abbrev xs : List Change
   xs = changes_of (decided e r)
 
@@ -200,7 +202,7 @@ module _ (d m : ℕ) (e : Event) (r : Room) (w : IsWellFormed r) where
   Over = EndsBy e r (answer_to e r)
 
   effects : Effects Over r xs
-  effects = event_effects e r w
+  effects = event_effects e r w single
 
   abbrev Stays : Concern → Type 0
   Stays k = Has d m (room_after e r) k
@@ -421,27 +423,50 @@ module _ (d m : ℕ) (e : Event) (r : Room) (w : IsWellFormed r) where
   stays after (Uncovered n) h = point_goes_on after n h
   stays after (Unanswered n c) h = offer_goes_on n c h
 
--- ---- over a run
-one_event : (d m : ℕ) (k : Concern) (e : Event) (r : Room) (w : IsWellFormed r)
+-- ---- over steps
+one_step : (d m : ℕ) (k : Concern) (e : Event) (r : Room) (w : IsWellFormed r) → IsSingle e
     → IsWellFormed (room_after e r) → Has d m r k → Has d m (room_after e r) k ⊎ Ends d k e r
-one_event d m k e r w after h = go (changes_of (decided e r)) refl
+one_step d m k e r w single after h = go (changes_of (decided e r)) refl
   where
     go : (cs : List Change) → changes_of (decided e r) ≡ cs → Has d m (room_after e r) k ⊎ Ends d k e r
     go [] same = inl (subst (λ cs. Has d m (apply r cs) k) (sym same) h)
-    go (c ∷ cs) same = elim (stays d m e r w after k h) [
+    go (c ∷ cs) same = elim (stays d m e r w single after k h) [
       | inl still ↦ inl still
       | inr ends ↦ inr ((λ none. let both : [] ≡ c ∷ cs = sym none ∙ same in cc), ends)
     ]
+
+steps_still : (d m : ℕ) (k : Concern) (es : List Event) (r : Room) → IsWellFormed r
+    → AreAddressed es r → AreSingle es → Has d m r k
+    → Has d m (room_run es r) k ⊎ HappensIn (Ends d k) es r
+steps_still d m k [] r w known single h = inl h
+steps_still d m k (e ∷ es) r w known single h =
+    let after = event_kept e r w known.0 known.1 in
+    elim (one_step d m k e r w single.0 after h) [
+      | inr ends ↦ inr (inl ends)
+      | inl still ↦
+          elim (steps_still d m k es (room_after e r) after
+          (addressed_still es r (changes_of (decided e r)) known.2) single.1 still) [
+            | inl on ↦ inl on
+            | inr ended ↦ inr (inr ended)
+          ]
+    ]
+
+-- ---- over a run
+one_event : (d m : ℕ) (k : Concern) (e : Event) (r : Room) → IsWellFormed r → IsAddressed e r
+    → IsNumbered e.ask → Has d m r k
+    → Has d m (room_after e r) k ⊎ HappensIn (Ends d k) (steps_of e r) r
+one_event d m k e r w known numbered h =
+    subst (λ s. Has d m s k ⊎ HappensIn (Ends d k) (steps_of e r) r) (sym (steps_run e r))
+    (steps_still d m k (steps_of e r) r w (steps_addressed e r known numbered) (steps_single e r) h)
 
 pub has_still : (d m : ℕ) (k : Concern) (es : List Event) (r : Room) → IsWellFormed r
     → AreAddressed es r → Has d m r k → Has d m (room_run es r) k ⊎ IsEnded d k es r
 has_still d m k [] r w known h = inl h
 has_still d m k (e ∷ es) r w known h =
-    let after = event_kept e r w known.0 known.1 in
-    elim (one_event d m k e r w after h) [
+    elim (one_event d m k e r w known.0 known.1 h) [
       | inr ends ↦ inr (inl ends)
       | inl still ↦
-          elim (has_still d m k es (room_after e r) after
+          elim (has_still d m k es (room_after e r) (event_kept e r w known.0 known.1)
           (addressed_still es r (changes_of (decided e r)) known.2) still) [
             | inl on ↦ inl on
             | inr ended ↦ inr (inr ended)

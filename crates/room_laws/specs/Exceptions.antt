@@ -35,7 +35,7 @@ pub data Concern : Type 0 where
   Unserved : ℕ → Concern
   -- 2: an order for an incident, which its vehicle has not acknowledged
   Unacknowledged : ℕ → Callsign → Concern
-  -- 3: a vehicle that is too late_for_scene to an incident
+  -- 3: a vehicle that is late for the scene of an incident
   LateForScene : ℕ → Callsign → Concern
   -- 4: a report of this number, out of turn
   OutOfTurn : ℕ → Callsign → Concern
@@ -130,7 +130,7 @@ abbrev pub is_ended_by : ℕ → Concern → Event → Room → Bool
 is_ended_by d k e r = ends_by d k e.who e.ask (is_back_due e.who e.at r) (answer_to e r)
 
 -- The incident has class 0, and with it the longest limit. Calls have classes 1 to 3; of these the
--- lower has the shorter limit, so that another call or a merge makes no vehicle less late_for_scene.
+-- lower has the shorter limit, so that another call or a merge makes no vehicle less late.
 abbrev pub is_unclassed : Option Incident → Bool
 is_unclassed None = false
 is_unclassed (Some i) = i.class == 0
@@ -139,13 +139,13 @@ abbrev pub loses_class : ℕ → Concern → Room → Bool
 loses_class d (LateForScene n c) r = is_unclassed (incident_of d n r)
 loses_class d k r = false
 
--- the event ends it: it is one of these, and it changed the room
+-- a step ends it: it is one of these, and it changed the room
 abbrev pub Ends : ℕ → Concern → Event → Room → Type 0
 Ends d k e r =
     (changes_of (decided e r) ≢ [])
     × (is_ended_by d k e r || loses_class d k (room_after e r) ≡ true)
 
--- one of the events ends it
+-- a step of one of the events ends it
 abbrev pub IsEnded : ℕ → Concern → List Event → Room → Type 0
 IsEnded d k es r = Happens (Ends d k) es r
 

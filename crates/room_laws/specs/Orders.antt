@@ -19,6 +19,7 @@ use Rattle.room_model.specs.Events.{by_crew, by_desk}
 use Rattle.room_model.specs.Queries.{assignment_at, incident_of, kept_report, vehicle_at}
 use Rattle.room_model.specs.Room.{Room}
 use Rattle.room_model.specs.Step.{answer_to, room_after}
+use Rattle.room_laws.specs.Happens.{HappensIn, HoldsIn, steps_of}
 use Rattle.room_types.specs.declared.answers.Answer.TheVariants as answer
 
 -- ---- how it begins
@@ -67,15 +68,18 @@ EndsOrder event room order = IsTakenBack event room order ⊎ IsReportedOver eve
 
 -- ---- what an event does to orders
 pub record AreKept (event : Event) (room : Room) : Type 0 where
-  -- an order that was not there was sent
+  -- an order that was not there was sent by a step of it
   pub given : (order : Assignment) → Among order (room_after event room).assignments
-      → Among order room.assignments ⊎ IsSent event room order
-  -- one that was there stays as it is, unless it is ended
+      → Among order room.assignments
+      ⊎ HappensIn (λ step now. IsSent step now order) (steps_of event room) room
+  -- one that was there stays as it is, unless a step ends it
   pub stays : (order : Assignment) → Among order room.assignments
-      → Among order (room_after event room).assignments ⊎ EndsOrder event room order
-  -- and then it is gone
-  pub ends : (order : Assignment) → Among order room.assignments → EndsOrder event room order
-      → Among order (room_after event room).assignments → ⊥
+      → Among order (room_after event room).assignments
+      ⊎ HappensIn (λ step now. EndsOrder step now order) (steps_of event room) room
+  -- and by that step it is gone
+  pub ends : (order : Assignment)
+      → HoldsIn (λ step now. Among order now.assignments → EndsOrder step now order
+      → Among order (room_after step now).assignments → ⊥) (steps_of event room) room
 
 -- ---- whom it reaches
 -- the crew that asks for its order at a moment is answered with this one

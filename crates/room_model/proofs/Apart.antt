@@ -1,13 +1,15 @@
 -- What another desk asks leaves a division's share as it is, where nothing is handed over.
-use Rattle.std.proofs.Common.{ap, eqb-true, inl, inr, sym}
+use Rattle.std.proofs.Common.{ap, eqb-true, inl, inr, subst, sym}
 use Rattle.std.specs.Prelude.{Bool, List, None, Option, Some, [], false, is_none, map, not, refl}
-use Rattle.std.specs.Prelude.{true, ℕ, ◌&&◌, ◌+◌, ◌==◌, ◌∷◌, ◌≡◌}
+use Rattle.std.specs.Prelude.{true, ℕ, ◌&&◌, ◌+◌, ◌++◌, ◌==◌, ◌∷◌, ◌≡◌}
 use Rattle.room_place.specs.Choice.{Among}
 use Rattle.room_place.specs.declared.places.Place.{Place}
 use Rattle.room_types.specs.Keys.{incident_key, pair_cmp, same_callsign}
 use Rattle.room_types.specs.KeyLemmas.{exact_pair, pairs_total}
 use Rattle.room_types.specs.declared.asks.Ask.{Ask}
+use Rattle.room_types.specs.declared.asks.Move.{Move}
 use Rattle.room_types.specs.declared.asks.Who.TheVariants.{Desk}
+use Rattle.room_types.specs.declared.changes.Change.{Change}
 use Rattle.room_types.specs.declared.needs.Counts.{Counts}
 use Rattle.room_types.specs.declared.codes.State.TheVariants.{Closed, Merged}
 use Rattle.room_types.specs.declared.codes.Status.TheVariants.{Available, Mobilised, OffDuty}
@@ -20,7 +22,9 @@ use Rattle.room_types.specs.declared.tables.Report.{Report}
 use Rattle.room_types.specs.declared.tables.Turn.{Turn}
 use Rattle.room_types.specs.declared.tables.Vehicle.{Vehicle}
 use Rattle.room_types.specs.Texts.{Callsign}
-use Rattle.room_model.proofs.Foreign.{AllForeign, foreign_append}
+use Rattle.room_model.proofs.Foreign.{AllForeign, foreign_append, own_foreign}
+use Rattle.room_model.proofs.KeptAsks.{mobilise_kept, stand_down_kept}
+use Rattle.room_model.proofs.MoveFolds.{apply_both, by_ask, by_moves}
 use Rattle.room_model.proofs.Others.{IsHeld, call_foreign, held_is, incident_foreign, no_turn}
 use Rattle.room_model.proofs.Others.{other_assignment, point_foreign, report_foreign, turn_foreign}
 use Rattle.room_model.proofs.Others.{vehicle_foreign}
@@ -33,9 +37,9 @@ use Rattle.room_model.specs.Incidents.{change_needs, close, joined, merge, merge
 use Rattle.room_model.specs.Moments.{first_of}
 use Rattle.room_model.specs.Queries.{calls_of, incident_of, open_turn, report_of}
 use Rattle.room_model.specs.Queue.{clear, clear_found}
-use Rattle.room_model.specs.Room.{Room}
+use Rattle.room_model.specs.Room.{Room, apply}
 use Rattle.room_model.specs.Shares.{own}
-use Rattle.room_model.specs.Step.{desk_asks}
+use Rattle.room_model.specs.Step.{ask_of, course, desk_asks, moves_in, single_asks, verdict_of}
 use Rattle.room_model.specs.Vehicles.{duty, mobilise, off, posted, stand_down, standby, standby_at}
 use Rattle.room_model.specs.Vehicles.{turn_stood_down}
 use Rattle.room_model.specs.RoomAgreements.{IsWellFormed}
@@ -203,23 +207,52 @@ module _ (d h : ℕ) (r : Room) (w : IsWellFormed r) (apart : h == d ≡ false) 
   unfolding clear
   clear_leaves c n = clear_leaves_found c n (report_of h c n r) (λ x e. e)
 
-  -- ---- any ask that hands nothing on
-  pub local_leaves : (a : Ask) (at : ℕ) → is_local a ≡ true → LeavesShare (desk_asks h a at r)
-  local_leaves (ask.Mobilise n c) at l = mobilise_leaves n c at
-  local_leaves (ask.Needs n needs) at l = needs_leaves n needs
-  local_leaves (ask.Merge n m) at l = merge_leaves n m
-  local_leaves (ask.Close n) at l = close_leaves n
-  local_leaves (ask.StandDown c) at l = stand_down_leaves c at
-  local_leaves (ask.Standby c p) at l = standby_leaves c p at
-  local_leaves (ask.Duty c place until) at l = duty_leaves c place until at
-  local_leaves (ask.Off c) at l = off_leaves c
+-- ---- any ask that hands nothing on
+-- changes leave the share, and the room well-formed
+abbrev LeavesWhole : ℕ → Room → List Change → Type 0
+LeavesWhole d r cs = IsWellFormed r → AllForeign d (own d r) cs × IsWellFormed (apply r cs)
+
+leave_both : (d : ℕ) (r : Room) (cs ds : List Change) → LeavesWhole d r cs
+    → LeavesWhole d (apply r cs) ds → LeavesWhole d r (cs ++ ds)
+leave_both d r cs ds f g w =
+    let first = f w in
+    let rest = g first.1 in (
+      foreign_append d (own d r) cs ds first.0
+          (subst (λ s. AllForeign d s ds) (own_foreign d r cs w.order first.0) rest.0),
+      subst IsWellFormed (sym (apply_both r cs ds)) rest.1,
+    )
+
+move_leaves : (d h : ℕ) → h == d ≡ false → (m : Move) (at : ℕ) (r : Room)
+    → LeavesWhole d r (changes_of (single_asks h (ask_of m) at r))
+move_leaves d h apart m at r =
+    by_ask (λ a. LeavesWhole d r (changes_of (single_asks h a at r)))
+    (λ c w. (stand_down_leaves d h r w apart c at, stand_down_kept h r w c at))
+    (λ n c w. (mobilise_leaves d h r w apart n c at, mobilise_kept h r w n c at)) m
+
+moves_leave : (d h : ℕ) → h == d ≡ false → (ms : List Move) (at : ℕ) (r : Room)
+    → LeavesWhole d r (changes_of (verdict_of (course h ms at r)))
+moves_leave d h apart ms at r =
+    by_moves h at (LeavesWhole d) (λ s w. (tt, w)) (λ m s. move_leaves d h apart m at s)
+    (leave_both d) ms r
+
+module _ (d h : ℕ) (r : Room) (w : IsWellFormed r) (apart : h == d ≡ false) where
+  pub local_leaves : (a : Ask) (at : ℕ) → is_local a ≡ true → LeavesShare d h r w apart (desk_asks h a at r)
+  local_leaves (ask.Mobilise n c) at l = mobilise_leaves d h r w apart n c at
+  local_leaves (ask.Needs n needs) at l = needs_leaves d h r w apart n needs
+  local_leaves (ask.Merge n m) at l = merge_leaves d h r w apart n m
+  local_leaves (ask.Close n) at l = close_leaves d h r w apart n
+  local_leaves (ask.Moves ms) at l = (moves_leave d h apart (moves_in ms) at r w).0
+  local_leaves (ask.StandDown c) at l = stand_down_leaves d h r w apart c at
+  local_leaves (ask.Standby c p) at l = standby_leaves d h r w apart c p at
+  local_leaves (ask.Duty c place until) at l = duty_leaves d h r w apart c place until at
+  local_leaves (ask.Off c) at l = off_leaves d h r w apart c
   local_leaves (ask.Lend c to until) at l = cc
   local_leaves (ask.Withdraw c) at l = cc
   local_leaves (ask.Decline c) at l = cc
   local_leaves (ask.Accept c) at l = cc
   local_leaves (ask.Recall c) at l = cc
   local_leaves (ask.GiveBack c) at l = cc
-  local_leaves (ask.Clear c n) at l = clear_leaves c n
+  local_leaves (ask.Clear c n) at l = clear_leaves d h r w apart c n
   local_leaves (ask.SetPoint n place cover) at l =
       (point_foreign d h r w apart (record { division = h; number = n; place = place; cover = cover }) refl, tt)
   local_leaves a at l = by_quiet at r (AllForeign d (own d r)) (Desk h) a refl tt

@@ -44,7 +44,7 @@ use Rattle.room_model.specs.Queries.{turns_of}
 use Rattle.room_model.specs.Queue.{clear, clear_found, entries, ordered_from, show_queue}
 use Rattle.room_model.specs.Queue.{show_reports}
 use Rattle.room_model.specs.Room.{Room}
-use Rattle.room_model.specs.Step.{desk_asks}
+use Rattle.room_model.specs.Step.{single_asks}
 use Rattle.room_model.specs.Vehicles.{duty, mobilise, mobilise_held, off, posted, show_vehicles}
 use Rattle.room_model.specs.Vehicles.{stand_down, stand_down_held, standby, stands_by, vehicle_line}
 use Rattle.room_model.specs.WorkingRows.{reads_point}
@@ -324,7 +324,7 @@ module _ (d : ℕ) (s r : Room) where
 
   -- it is decided by what it reads
   pub asked_same : (a : Ask) (at : ℕ) → SeesAsked d a at s r
-      → desk_asks d a at s ≡ desk_asks d a at r
+      → single_asks d a at s ≡ single_asks d a at r
   asked_same (ask.Call f) at sees = refl
   asked_same ask.Incidents at sees =
       incidents_same (sees.same_active refl) (sees.active refl) (sees.same_active_calls refl refl)
@@ -342,6 +342,7 @@ module _ (d : ℕ) (s r : Room) where
       (sees.incident m (or_right (n == m) _ (itself m))).same_incident
   asked_same (ask.Close n) at sees = close_same n (sees.incident n (itself n))
   asked_same ask.Vehicles at sees = vehicles_same (sees.same_all_held (λ k. refl)) (sees.same_assignment refl)
+  asked_same (ask.Moves ms) at sees = refl
   asked_same (ask.StandDown c) at sees =
       stand_down_same c at (by_callsign c sees.vehicle) (λ v e. sees.same_last_turn c v refl e)
   asked_same (ask.Standby c p) at sees =

@@ -8,6 +8,7 @@ use Rattle.room_place.specs.Plans.{division_of}
 use Rattle.room_types.specs.KeyedRows.{row_at}
 use Rattle.room_types.specs.Keys.{numbered_cmp, report_key}
 use Rattle.room_types.specs.Texts.{Callsign}
+use Rattle.room_types.specs.declared.asks.Move.{Move}
 use Rattle.room_types.specs.declared.asks.Ask.{Ask}
 use Rattle.room_types.specs.declared.asks.Event.{Event}
 use Rattle.room_types.specs.declared.asks.NewCall.{NewCall}
@@ -31,6 +32,7 @@ use Rattle.room_types.specs.declared.tables.Turn.{Turn}
 use Rattle.room_types.specs.declared.tables.Vehicle.{Vehicle}
 use Rattle.room_model.proofs.Others.{held_is, keep_some}
 use Rattle.room_model.proofs.DecisionLaws.{by_refuse, by_report}
+use Rattle.room_model.proofs.MoveFolds.{by_ask, by_moves}
 use Rattle.room_model.proofs.Questions.{IsQuiet, by_quiet}
 use Rattle.room_model.proofs.Tests.{among_filter}
 use Rattle.room_model.specs.Calls.{call_in, call_kept, call_somewhere, call_taken, new_call}
@@ -49,7 +51,8 @@ use Rattle.room_model.specs.Reports.{outcome_of, report_held, report_in, report_
 use Rattle.room_model.specs.Reports.{report_somewhere, turn_changes}
 use Rattle.room_model.specs.Room.{Room}
 use Rattle.room_model.specs.Shares.{ArePlain, IsPlain}
-use Rattle.room_model.specs.Step.{decided, desk_asks, position_asks, who_asks}
+use Rattle.room_model.specs.Step.{course, decided, desk_asks, moves_in, position_asks}
+use Rattle.room_model.specs.Step.{single_asks, verdict_of, who_asks}
 use Rattle.room_model.specs.Vehicles.{duty, mobilise, mobilise_held, mobilised, off, off_duty}
 use Rattle.room_model.specs.Vehicles.{on_duty, stand_down, stand_down_held, standby, standby_at}
 use Rattle.room_model.specs.Vehicles.{stands_by, turn_stood_down}
@@ -171,29 +174,45 @@ module _ (r : Room) (Q : Change → Type 0) (q : Allows r Q) where
   quiet_all : (who : Who) (a : Ask) (at : ℕ) → IsQuiet who a → Holds (who_asks who a at r)
   quiet_all who a at h = by_quiet at r (AllOf Q) who a h tt
 
-  pub desk_all : (d : ℕ) (a : Ask) (at : ℕ) → (lends a ≡ true → AllowsLending Q)
-      → Holds (desk_asks d a at r)
-  unfolding mobilise change_needs merge close stand_down standby duty off lend withdraw decline accept recall give_back
-      clear
-  desk_all d (ask.Mobilise n c) at f =
-      by_incident (incident_of d n r) (mobilise_held d (held d c r) (lent d c r) at (λ k. served d n k r))
+  mobilise_all : (d n : ℕ) (c : Callsign) (at : ℕ) (s : Room) → Holds (mobilise d n c at s)
+  unfolding mobilise
+  mobilise_all d n c at s =
+      by_incident (incident_of d n s) (mobilise_held d (held d c s) (lent d c s) at (λ k. served d n k s))
       (λ i.
-      by_vehicle (held d c r) (lent d c r) (mobilised d i at (λ k. served d n k r))
+      by_vehicle (held d c s) (lent d c s) (mobilised d i at (λ k. served d n k s))
       (λ v.
       refuse _ _ _ (refuse _ _ _
       (refuse _ _ _ (refuse _ _ _ (q.silent _ refl, (q.silent _ refl, (q.silent _ refl, (q.silent _ refl, tt)))))))))
+
+  stand_down_all : (d : ℕ) (c : Callsign) (at : ℕ) (s : Room) → Holds (stand_down d c at s)
+  unfolding stand_down
+  stand_down_all d c at s =
+      by_vehicle (held d c s) (lent d c s) (stand_down_held at (open_turn d c s))
+      (λ v.
+      refuse _ _ _ (append (turn_stood_down at (open_turn d c s))
+      (DropAssignment v.callsign ∷ PutVehicle (record v { status = Returning }) ∷ []) (stood_down at (open_turn d c s))
+      (q.silent _ refl, (q.silent _ refl, tt))))
+
+  -- of moves in whatever room each meets
+  moves_all : (d : ℕ) (ms : List Move) (at : ℕ) (s : Room) → Holds (verdict_of (course d ms at s))
+  moves_all d ms at s =
+      by_moves d at (λ q cs. AllOf Q cs) (λ q. tt)
+      (λ m q. by_ask (λ a. Holds (single_asks d a at q)) (λ c. stand_down_all d c at q)
+      (λ n c. mobilise_all d n c at q) m) (λ q cs ds f g. append cs ds f g) ms s
+
+  pub desk_all : (d : ℕ) (a : Ask) (at : ℕ) → (lends a ≡ true → AllowsLending Q)
+      → Holds (desk_asks d a at r)
+  unfolding change_needs merge close standby duty off lend withdraw decline accept recall give_back
+      clear
+  desk_all d (ask.Mobilise n c) at f = mobilise_all d n c at r
   desk_all d (ask.Needs n needs) at f =
       by_incident (incident_of d n r) (needs_changed needs (λ k. served d n k r))
       (λ i. refuse _ _ _ (q.silent _ refl, tt))
   desk_all d (ask.Merge n m) at f = merged _ _ _ _ (own_calls d n)
   desk_all d (ask.Close n) at f =
       by_incident (incident_of d n r) (close_active (is_attended d n r)) (λ i. refuse _ _ _ (q.silent _ refl, tt))
-  desk_all d (ask.StandDown c) at f =
-      by_vehicle (held d c r) (lent d c r) (stand_down_held at (open_turn d c r))
-      (λ v.
-      refuse _ _ _ (append (turn_stood_down at (open_turn d c r))
-      (DropAssignment v.callsign ∷ PutVehicle (record v { status = Returning }) ∷ []) (stood_down at (open_turn d c r))
-      (q.silent _ refl, (q.silent _ refl, tt))))
+  desk_all d (ask.Moves ms) at f = moves_all d (moves_in ms) at r
+  desk_all d (ask.StandDown c) at f = stand_down_all d c at r
   desk_all d (ask.Standby c p) at f =
       by_vehicle (held d c r) (lent d c r) (stands_by p (λ n. is_some (point_of d n r)) at)
       (λ v. refuse _ _ _ (standby_all p _ at v))

@@ -7,6 +7,7 @@ use Rattle.room_types.specs.KeyedRows.{row_at}
 use Rattle.room_types.specs.Keys.{callsign_cmp, vehicle_key}
 use Rattle.room_types.specs.KeyLemmas.{callsigns_total, exact_callsigns}
 use Rattle.room_types.specs.Texts.{Callsign}
+use Rattle.room_types.specs.declared.asks.Move.{Move}
 use Rattle.room_types.specs.declared.asks.Ask.{Ask}
 use Rattle.room_types.specs.declared.asks.Event.{Event}
 use Rattle.room_types.specs.declared.asks.NewCall.{NewCall}
@@ -32,6 +33,7 @@ use Rattle.room_types.specs.declared.tables.Offer.{Offer}
 use Rattle.room_types.specs.declared.tables.Report.{Report}
 use Rattle.room_types.specs.declared.tables.Turn.{Turn}
 use Rattle.room_types.specs.declared.tables.Vehicle.{Vehicle}
+use Rattle.room_model.proofs.MoveFolds.{by_moves}
 use Rattle.room_model.proofs.IncidentChanges.{vehicles_put}
 use Rattle.room_model.proofs.KeptEvents.{plan_stays}
 use Rattle.room_model.proofs.Others.{held_is}
@@ -57,8 +59,8 @@ use Rattle.room_model.specs.Reports.{report_held, report_in, report_kept, report
 use Rattle.room_model.specs.Reports.{report_somewhere, turn_changes, with_report}
 use Rattle.room_model.specs.Room.{Room, apply, apply_one, settled}
 use Rattle.room_model.specs.Run.{room_run}
-use Rattle.room_model.specs.Step.{decided, desk_asks, position_asks, room_after}
-use Rattle.room_model.specs.Step.{who_asks}
+use Rattle.room_model.specs.Step.{ask_of, course, decided, desk_asks, moves_in, position_asks}
+use Rattle.room_model.specs.Step.{room_after, single_asks, verdict_of, who_asks}
 use Rattle.room_model.specs.Vehicles.{duty, mobilise, mobilise_held, mobilised, off, off_duty}
 use Rattle.room_model.specs.Vehicles.{on_duty, stand_down, stand_down_held, standby, standby_at}
 use Rattle.room_model.specs.Vehicles.{stands_by, turn_stood_down}
@@ -186,45 +188,46 @@ module _ (r : Room) where
   quiet_fleet : (who : Who) (a : Ask) (at : ℕ) → IsQuiet who a → SameFleet (who_asks who a at r)
   quiet_fleet who a at h = by_quiet at r (AllKeepFleet r) who a h tt
 
-  desk_fleet : (d : ℕ) (a : Ask) (at : ℕ) → SameFleet (desk_asks d a at r)
+  pub single_fleet : (d : ℕ) (a : Ask) (at : ℕ) → SameFleet (single_asks d a at r)
   unfolding mobilise change_needs merge close stand_down standby duty off lend withdraw decline accept recall give_back
       clear
-  desk_fleet d (ask.Mobilise n c) at =
+  single_fleet d (ask.Mobilise n c) at =
       active_fleet (incident_of d n r) (mobilise_held d (held d c r) (lent d c r) at (λ k. served d n k r))
       (λ i.
       held_fleet d c (mobilised d i at (λ k. served d n k r))
       (λ v k.
       refused_fleet _ _ _ (refused_fleet _ _ _ (refused_fleet _ _ _ (refused_fleet _ _ _ (tt, (k, (tt, (tt, tt)))))))))
-  desk_fleet d (ask.Needs n needs) at =
+  single_fleet d (ask.Needs n needs) at =
       active_fleet (incident_of d n r) (needs_changed needs (λ k. served d n k r)) (λ i. refused_fleet _ _ _ (tt, tt))
-  desk_fleet d (ask.Merge n m) at = merge_fleet _ _ _ _
-  desk_fleet d (ask.Close n) at =
+  single_fleet d (ask.Merge n m) at = merge_fleet _ _ _ _
+  single_fleet d (ask.Close n) at =
       active_fleet (incident_of d n r) (close_active (is_attended d n r)) (λ i. refused_fleet _ _ _ (tt, tt))
-  desk_fleet d (ask.StandDown c) at =
+  single_fleet d (ask.Moves ms) at = tt
+  single_fleet d (ask.StandDown c) at =
       held_fleet d c (stand_down_held at (open_turn d c r)) (λ v k.
       refused_fleet _ _ _ (fleet_append (turn_stood_down at (open_turn d c r))
       (DropAssignment v.callsign ∷ PutVehicle (record v { status = Returning }) ∷ []) (turn_fleet at (open_turn d c r))
       (tt, (k, tt))))
-  desk_fleet d (ask.Standby c p) at =
+  single_fleet d (ask.Standby c p) at =
       held_fleet d c (stands_by p (λ n. is_some (point_of d n r)) at)
       (λ v k. refused_fleet _ _ _ (standby_fleet p _ at v k))
-  desk_fleet d (ask.Duty c place until) at =
+  single_fleet d (ask.Duty c place until) at =
       held_fleet d c (on_duty place until at) (λ v k. refused_fleet _ _ _ (refused_fleet _ _ _ (k, tt)))
-  desk_fleet d (ask.Off c) at = held_fleet d c off_duty (λ v k. refused_fleet _ _ _ (refused_fleet _ _ _ (k, tt)))
-  desk_fleet d (ask.Lend c to until) at =
+  single_fleet d (ask.Off c) at = held_fleet d c off_duty (λ v k. refused_fleet _ _ _ (refused_fleet _ _ _ (k, tt)))
+  single_fleet d (ask.Lend c to until) at =
       held_fleet d c (offered r.plan d to until at) (λ v k.
       refused_fleet _ _ _
       (refused_fleet _ _ _ (refused_fleet _ _ _ (refused_fleet _ _ _ (refused_fleet _ _ _ (k, (tt, tt)))))))
-  desk_fleet d (ask.Withdraw c) at =
+  single_fleet d (ask.Withdraw c) at =
       held_fleet d c (withdrawn (offered_by d c r)) (λ v k. withdrawn_fleet (offered_by d c r) v k)
-  desk_fleet d (ask.Decline c) at = declined_fleet _
-  desk_fleet d (ask.Accept c) at = accepted_fleet _ at
-  desk_fleet d (ask.Recall c) at = recalled_fleet _ _
-  desk_fleet d (ask.GiveBack c) at =
+  single_fleet d (ask.Decline c) at = declined_fleet _
+  single_fleet d (ask.Accept c) at = accepted_fleet _ at
+  single_fleet d (ask.Recall c) at = recalled_fleet _ _
+  single_fleet d (ask.GiveBack c) at =
       held_fleet d c (given_back d (borrowed d c r)) (λ v k. refused_fleet _ _ _ (refused_fleet _ _ _ (k, (tt, tt))))
-  desk_fleet d (ask.Clear c n) at = cleared_fleet _
-  desk_fleet d (ask.SetPoint n place cover) at = (tt, tt)
-  desk_fleet d a at = quiet_fleet (Desk d) a at refl
+  single_fleet d (ask.Clear c n) at = cleared_fleet _
+  single_fleet d (ask.SetPoint n place cover) at = (tt, tt)
+  single_fleet d a at = quiet_fleet (Desk d) a at refl
 
   -- ---- calls
   new_fleet : (d : ℕ) (new : NewCall) (v : Option Division) → SameFleet (call_new d new v)
@@ -305,13 +308,25 @@ module _ (r : Room) where
   crew_fleet c (ask.Report p) at = kept_fleet _ c p at
   crew_fleet c a at = quiet_fleet (Crew c) a at refl
 
-  who_fleet : (who : Who) (a : Ask) (at : ℕ) → SameFleet (who_asks who a at r)
-  who_fleet (Desk d) a at = desk_fleet d a at
-  who_fleet (Position p) a at = position_fleet p a at
-  who_fleet (Crew c) a at = crew_fleet c a at
+-- ---- whoever asks
+moves_fleet : (d : ℕ) (ms : List Move) (at : ℕ) (r : Room)
+    → SameFleet r (verdict_of (course d ms at r))
+moves_fleet d ms at r =
+    by_moves d at AllKeepFleet (λ s. tt) (λ m s. single_fleet s d (ask_of m) at)
+    (λ s cs ds f g.
+    fleet_append s cs ds f (all_still_keep (apply s cs) s ds (λ c. sym (fleet_after c s cs f)) g)) ms r
+
+desk_fleet : (d : ℕ) (a : Ask) (at : ℕ) (r : Room) → SameFleet r (desk_asks d a at r)
+desk_fleet d (ask.Moves ms) at r = moves_fleet d (moves_in ms) at r
+desk_fleet d a at r = single_fleet r d a at
+
+who_fleet : (who : Who) (a : Ask) (at : ℕ) (r : Room) → SameFleet r (who_asks who a at r)
+who_fleet (Desk d) a at r = desk_fleet d a at r
+who_fleet (Position p) a at r = position_fleet r p a at
+who_fleet (Crew c) a at r = crew_fleet r c a at
 
 pub fleet_stays : (c : Callsign) (e : Event) (r : Room) → fleet_at c (room_after e r) ≡ fleet_at c r
-fleet_stays c e r = fleet_after c r (changes_of (decided e r)) (who_fleet r e.who e.ask e.at)
+fleet_stays c e r = fleet_after c r (changes_of (decided e r)) (who_fleet e.who e.ask e.at r)
 
 -- ---- over lists of events
 pub fleet_run : (c : Callsign) (es : List Event) (r : Room)

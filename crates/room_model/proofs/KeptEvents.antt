@@ -1,5 +1,5 @@
 -- Each event keeps a room well-formed, and so do lists of events.
-use Rattle.std.proofs.Common.{ap, ◌∙◌}
+use Rattle.std.proofs.Common.{ap, subst, sym, ◌∙◌}
 use Rattle.std.specs.Prelude.{List, None, Option, Some, [], is_some, refl, true, ℕ, ◌∷◌, ◌≡◌}
 use Rattle.room_place.specs.Plans.{has_division}
 use Rattle.room_types.specs.KeyedRows.{put_row, row_at}
@@ -7,6 +7,7 @@ use Rattle.room_types.specs.Keys.{callsign_cmp, vehicle_key}
 use Rattle.room_types.specs.Texts.{Callsign}
 use Rattle.room_types.specs.declared.asks.Ask.{Ask}
 use Rattle.room_types.specs.declared.asks.Event.{Event}
+use Rattle.room_types.specs.declared.asks.Move.{Move}
 use Rattle.room_types.specs.declared.asks.Who.{Who}
 use Rattle.room_types.specs.declared.asks.Who.TheVariants.{Crew, Desk, Position}
 use Rattle.room_types.specs.declared.changes.Change.{Change}
@@ -25,6 +26,7 @@ use Rattle.room_model.proofs.KeptLoans.{accept_kept, decline_kept, give_back_kep
 use Rattle.room_model.proofs.KeptLoans.{recall_kept, withdraw_kept}
 use Rattle.room_model.proofs.KeptMerge.{merge_kept}
 use Rattle.room_model.proofs.KeptReports.{take_report_kept}
+use Rattle.room_model.proofs.MoveFolds.{apply_both, by_ask, by_moves}
 use Rattle.room_model.proofs.Questions.{IsQuiet, by_quiet}
 use Rattle.room_model.proofs.Tests.{both_true, left_true, right_true}
 use Rattle.room_model.proofs.VehicleRows.{settle}
@@ -34,8 +36,9 @@ use Rattle.room_model.specs.Decisions.{changes_of}
 use Rattle.room_model.specs.Queries.{vehicle_at}
 use Rattle.room_model.specs.Room.{Room, apply, apply_one, settled}
 use Rattle.room_model.specs.Run.{room_run}
-use Rattle.room_model.specs.Step.{IsAddressed, decided, desk_asks, is_crews, is_desks}
-use Rattle.room_model.specs.Step.{is_for, position_asks, room_after, who_asks}
+use Rattle.room_model.specs.Step.{IsAddressed, course, decided, desk_asks, is_crews, is_desks}
+use Rattle.room_model.specs.Step.{is_for, moves_in, position_asks, room_after, single_asks}
+use Rattle.room_model.specs.Step.{verdict_of, who_asks}
 use Rattle.room_model.specs.RoomAgreements.{IsWellFormed}
 use Rattle.room_types.specs.declared.asks.Ask.TheVariants as ask
 
@@ -43,12 +46,21 @@ quiet_kept : (who : Who) (a : Ask) (at : ℕ) (r : Room) → IsWellFormed r → 
     → IsWellFormed (apply r (changes_of (who_asks who a at r)))
 quiet_kept who a at r w h = by_quiet at r (λ xs. IsWellFormed (apply r xs)) who a h w
 
+moves_kept : (d : ℕ) (ms : List Move) (at : ℕ) (r : Room) → IsWellFormed r
+    → IsWellFormed (apply r (changes_of (verdict_of (course d ms at r))))
+moves_kept d ms at r w =
+    by_moves d at (λ s cs. IsWellFormed s → IsWellFormed (apply s cs)) (λ s v. v)
+    (λ m s. by_ask (λ a. (v : IsWellFormed s) → Kept d s v (single_asks d a at s))
+    (λ c v. stand_down_kept d s v c at) (λ n c v. mobilise_kept d s v n c at) m)
+    (λ s cs ds f g v. subst IsWellFormed (sym (apply_both s cs ds)) (g (f v))) ms r w
+
 desk_kept : (d : ℕ) (a : Ask) (at : ℕ) (r : Room) (w : IsWellFormed r)
     → has_division r.plan d ≡ true → Kept d r w (desk_asks d a at r)
 desk_kept d (ask.Mobilise n c) at r w h = mobilise_kept d r w n c at
 desk_kept d (ask.Needs n needs) at r w h = needs_kept d r w n needs
 desk_kept d (ask.Merge n m) at r w h = merge_kept d r w n m
 desk_kept d (ask.Close n) at r w h = close_kept d r w n
+desk_kept d (ask.Moves ms) at r w h = moves_kept d (moves_in ms) at r w
 desk_kept d (ask.StandDown c) at r w h = stand_down_kept d r w c at
 desk_kept d (ask.Standby c p) at r w h = standby_kept d r w c p at
 desk_kept d (ask.Duty c place until) at r w h = duty_kept d r w c place until at

@@ -20,6 +20,8 @@ pub mod KeptIncidents
 pub mod KeptLoans
 pub mod KeptMerge
 pub mod KeptReports
+pub mod MoveFolds
+pub mod MoveLaws
 pub mod NamedIncidents
 pub mod NearLaws
 pub mod OfferLaws
@@ -32,6 +34,7 @@ pub mod Others
 pub mod OwnChanges
 pub mod OwnDesk
 pub mod OwnRequests
+pub mod PlainChanges
 pub mod ProposalLaws
 pub mod Questions
 pub mod QueueLaws

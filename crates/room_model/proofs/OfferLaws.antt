@@ -10,6 +10,7 @@ use Rattle.room_types.specs.KeyLemmas.{callsigns_total}
 use Rattle.room_types.specs.Texts.{Callsign}
 use Rattle.room_types.specs.declared.answers.QueueEntry.{QueueEntry}
 use Rattle.room_types.specs.declared.answers.Proposal.{Proposal}
+use Rattle.room_types.specs.declared.asks.Move.{Move}
 use Rattle.room_types.specs.declared.asks.Ask.{Ask}
 use Rattle.room_types.specs.declared.asks.CallForm.{CallForm}
 use Rattle.room_types.specs.declared.asks.Event.{Event}
@@ -30,7 +31,8 @@ use Rattle.room_types.specs.declared.tables.Offer.{Offer}
 use Rattle.room_types.specs.declared.tables.Report.{Report}
 use Rattle.room_types.specs.declared.tables.Turn.{Turn}
 use Rattle.room_types.specs.declared.tables.Vehicle.{Vehicle}
-use Rattle.room_model.proofs.OffersMade.{AllMakeNone, MakesNone, none_made}
+use Rattle.room_model.proofs.MoveFolds.{by_ask, then_alike}
+use Rattle.room_model.proofs.OffersMade.{AllMakeNone, MakesNone, move_none, none_made}
 use Rattle.room_model.proofs.OpenTurns.{row_there}
 use Rattle.room_model.proofs.Tests.{row_among}
 use Rattle.room_model.specs.Calls.{call_in, call_kept, call_somewhere, new_call}
@@ -63,12 +65,40 @@ use Rattle.room_model.specs.Queue.{late_for_scene, late_turn, unanswered, uncove
 use Rattle.room_model.specs.Queue.{unserved}
 use Rattle.room_model.specs.Reports.{report_in, report_kept, report_somewhere}
 use Rattle.room_model.specs.Room.{IsInOrder, Room, apply, apply_one}
-use Rattle.room_model.specs.Step.{decided, desk_asks, position_asks, room_after}
-use Rattle.room_model.specs.Step.{who_asks}
+use Rattle.room_model.specs.Step.{and_then, ask_of, course, decided, desk_asks, moves_in}
+use Rattle.room_model.specs.Step.{position_asks, room_after, single_asks, verdict_of, who_asks}
 use Rattle.room_model.specs.Vehicles.{duty, mobilise, off, show_vehicles, stand_down, standby}
 use Rattle.room_model.specs.RoomAgreements.{OfferAgrees}
 use Rattle.room_types.specs.declared.answers.Answer.TheVariants as answer
 use Rattle.room_types.specs.declared.asks.Ask.TheVariants as ask
+
+-- changes that make none
+apply_one_without : (r : Room) (x : Change) → MakesNone x
+    → apply_one (without_offers r) x ≡ without_offers (apply_one r x)
+apply_one_without r (PutOffer x) h = absurd h
+apply_one_without r x h = refl
+
+apply_without : (r : Room) (xs : List Change) → AllMakeNone xs
+    → apply (without_offers r) xs ≡ without_offers (apply r xs)
+apply_without r [] h = refl
+apply_without r (x ∷ xs) h = ap (λ s. apply s xs) (apply_one_without r x h.0) ∙ apply_without (apply_one r x) xs h.1
+
+-- moves, one after another
+move_alike : (d : ℕ) (m : Move) (at : ℕ) (r : Room)
+    → single_asks d (ask_of m) at (without_offers r) ≡ single_asks d (ask_of m) at r
+unfolding mobilise stand_down held incident_of lent open_turn served
+move_alike d m at r =
+    by_ask (λ a. single_asks d a at (without_offers r) ≡ single_asks d a at r) (λ c. refl)
+    (λ n c. refl) m
+
+course_alike : (d : ℕ) (ms : List Move) (at : ℕ) (r : Room)
+    → course d ms at (without_offers r) ≡ course d ms at r
+course_alike d [] at r = refl
+course_alike d (m ∷ ms) at r =
+    let cs = changes_of (single_asks d (ask_of m) at r) in
+    ap (λ x. and_then m x (λ cs. course d ms at (apply (without_offers r) cs))) (move_alike d m at r)
+    ∙ then_alike m (single_asks d (ask_of m) at r) _ _
+    (ap (course d ms at) (apply_without r cs (move_none d m at r)) ∙ course_alike d ms at (apply r cs))
 
 module _ (r : Room) where
   -- ---- proposals
@@ -109,6 +139,7 @@ module _ (r : Room) where
   desk_alike d (ask.Withdraw c) at h = cc
   desk_alike d (ask.Decline c) at h = cc
   desk_alike d (ask.Accept c) at h = cc
+  desk_alike d (ask.Moves ms) at h = ap verdict_of (course_alike d (moves_in ms) at r)
   desk_alike d ask.Queue at h = cc
   desk_alike d ask.Offers at h = cc
   desk_alike d a at h = refl
@@ -168,16 +199,6 @@ pub decided_alike : (e : Event) (r : Room) → speaks_of_offers e.ask ≡ false
 decided_alike e r h = who_alike r e.who e.ask e.at h
 
 -- ---- afterwards
-apply_one_without : (r : Room) (x : Change) → MakesNone x
-    → apply_one (without_offers r) x ≡ without_offers (apply_one r x)
-apply_one_without r (PutOffer x) h = absurd h
-apply_one_without r x h = refl
-
-apply_without : (r : Room) (xs : List Change) → AllMakeNone xs
-    → apply (without_offers r) xs ≡ without_offers (apply r xs)
-apply_without r [] h = refl
-apply_without r (x ∷ xs) h = ap (λ s. apply s xs) (apply_one_without r x h.0) ∙ apply_without (apply_one r x) xs h.1
-
 no_lend : (a : Ask) → speaks_of_offers a ≡ false → is_lend a ≡ false
 no_lend (ask.Lend c to until) h = cc
 no_lend a h = refl

@@ -6,6 +6,7 @@ use Rattle.room_types.specs.Codes.{acts}
 use Rattle.room_types.specs.KeyedRows.{drop_row}
 use Rattle.room_types.specs.Keys.{callsign_cmp, offer_key}
 use Rattle.room_types.specs.Texts.{Callsign}
+use Rattle.room_types.specs.declared.asks.Move.{Move}
 use Rattle.room_types.specs.declared.asks.Ask.{Ask}
 use Rattle.room_types.specs.declared.asks.Event.{Event}
 use Rattle.room_types.specs.declared.asks.NewCall.{NewCall}
@@ -27,6 +28,7 @@ use Rattle.room_types.specs.declared.tables.Offer.{Offer}
 use Rattle.room_types.specs.declared.tables.Report.{Report}
 use Rattle.room_types.specs.declared.tables.Turn.{Turn}
 use Rattle.room_types.specs.declared.tables.Vehicle.{Vehicle}
+use Rattle.room_model.proofs.MoveFolds.{by_ask, by_moves}
 use Rattle.room_model.proofs.Questions.{IsQuiet, by_quiet}
 use Rattle.room_model.specs.Calls.{call_in, call_kept, call_new, call_somewhere, call_taken}
 use Rattle.room_model.specs.Calls.{new_call}
@@ -46,8 +48,8 @@ use Rattle.room_model.specs.Reports.{report_held, report_in, report_kept, report
 use Rattle.room_model.specs.Reports.{report_somewhere, turn_changes, with_report}
 use Rattle.room_model.specs.Room.{Room, apply, apply_one}
 use Rattle.room_model.specs.Run.{room_run}
-use Rattle.room_model.specs.Step.{decided, desk_asks, position_asks, room_after}
-use Rattle.room_model.specs.Step.{who_asks}
+use Rattle.room_model.specs.Step.{ask_of, course, decided, desk_asks, moves_in, position_asks}
+use Rattle.room_model.specs.Step.{room_after, single_asks, verdict_of, who_asks}
 use Rattle.room_model.specs.Vehicles.{duty, mobilise, mobilise_held, mobilised, off, off_duty}
 use Rattle.room_model.specs.Vehicles.{on_duty, stand_down, stand_down_held, standby, standby_at}
 use Rattle.room_model.specs.Vehicles.{stands_by, turn_stood_down}
@@ -135,25 +137,45 @@ quiet_none : (who : Who) (a : Ask) (at : ℕ) (r : Room) → IsQuiet who a
     → NoneMade (who_asks who a at r)
 quiet_none who a at r h = by_quiet at r AllMakeNone who a h tt
 
-desk_none : (d : ℕ) (a : Ask) (at : ℕ) (r : Room) → is_lend a ≡ false
-    → NoneMade (desk_asks d a at r)
-unfolding mobilise change_needs merge close stand_down standby duty off withdraw decline accept recall give_back clear
-desk_none d (ask.Mobilise n c) at r h =
+mobilise_none : (d n : ℕ) (c : Callsign) (at : ℕ) (r : Room) → NoneMade (mobilise d n c at r)
+unfolding mobilise
+mobilise_none d n c at r =
     active_none (incident_of d n r) (mobilise_held d (held d c r) (lent d c r) at (λ k. served d n k r))
     (λ i.
     held_none (held d c r) (lent d c r) (mobilised d i at (λ k. served d n k r))
     (λ v. refused_none _ _ _ (refused_none _ _ _ (refused_none _ _ _ (refused_none _ _ _ (tt, (tt, (tt, (tt, tt)))))))))
-desk_none d (ask.Needs n needs) at r h =
-    active_none (incident_of d n r) (needs_changed needs (λ k. served d n k r)) (λ i. refused_none _ _ _ (tt, tt))
-desk_none d (ask.Merge n m) at r h = merge_none _ _ _ _
-desk_none d (ask.Close n) at r h =
-    active_none (incident_of d n r) (close_active (is_attended d n r)) (λ i. refused_none _ _ _ (tt, tt))
-desk_none d (ask.StandDown c) at r h =
+
+stand_down_none : (d : ℕ) (c : Callsign) (at : ℕ) (r : Room) → NoneMade (stand_down d c at r)
+unfolding stand_down
+stand_down_none d c at r =
     held_none (held d c r) (lent d c r) (stand_down_held at (open_turn d c r))
     (λ v.
     refused_none _ _ _ (append_none (turn_stood_down at (open_turn d c r))
     (DropAssignment v.callsign ∷ PutVehicle (record v { status = Returning }) ∷ []) (turn_none at (open_turn d c r))
     (tt, (tt, tt))))
+
+pub move_none : (d : ℕ) (m : Move) (at : ℕ) (r : Room) → NoneMade (single_asks d (ask_of m) at r)
+move_none d m at r =
+    by_ask (λ a. NoneMade (single_asks d a at r)) (λ c. stand_down_none d c at r)
+    (λ n c. mobilise_none d n c at r) m
+
+moves_none : (d : ℕ) (ms : List Move) (at : ℕ) (r : Room)
+    → NoneMade (verdict_of (course d ms at r))
+moves_none d ms at r =
+    by_moves d at (λ s cs. AllMakeNone cs) (λ s. tt) (λ m s. move_none d m at s)
+    (λ s cs ds f g. append_none cs ds f g) ms r
+
+desk_none : (d : ℕ) (a : Ask) (at : ℕ) (r : Room) → is_lend a ≡ false
+    → NoneMade (desk_asks d a at r)
+unfolding change_needs merge close standby duty off withdraw decline accept recall give_back clear
+desk_none d (ask.Mobilise n c) at r h = mobilise_none d n c at r
+desk_none d (ask.Needs n needs) at r h =
+    active_none (incident_of d n r) (needs_changed needs (λ k. served d n k r)) (λ i. refused_none _ _ _ (tt, tt))
+desk_none d (ask.Merge n m) at r h = merge_none _ _ _ _
+desk_none d (ask.Close n) at r h =
+    active_none (incident_of d n r) (close_active (is_attended d n r)) (λ i. refused_none _ _ _ (tt, tt))
+desk_none d (ask.Moves ms) at r h = moves_none d (moves_in ms) at r
+desk_none d (ask.StandDown c) at r h = stand_down_none d c at r
 desk_none d (ask.Standby c p) at r h =
     held_none (held d c r) (lent d c r) (stands_by p (λ n. is_some (point_of d n r)) at)
     (λ v. refused_none _ _ _ (standby_none p _ at v))

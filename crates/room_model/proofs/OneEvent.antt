@@ -18,6 +18,8 @@ use Rattle.room_types.specs.declared.tables.Vehicle.{Vehicle}
 use Rattle.room_model.proofs.Handed.{desk_isolated}
 use Rattle.room_model.proofs.OwnChanges.{own_apply_own}
 use Rattle.room_model.proofs.OwnDesk.{desk_own}
+use Rattle.room_model.proofs.PlainChanges.{mobilise_plain, moves_plain, plain_active, plain_held}
+use Rattle.room_model.proofs.PlainChanges.{plain_refuse, stand_down_plain}
 use Rattle.room_model.proofs.Questions.{by_quiet}
 use Rattle.room_model.specs.Isolation.{share_by}
 use Rattle.room_types.specs.Codes.{is_active}
@@ -32,7 +34,7 @@ use Rattle.room_model.specs.Queries.{open_turn, point_of, served}
 use Rattle.room_model.specs.Queue.{clear, clear_found}
 use Rattle.room_model.specs.Room.{IsInOrder, Room, apply}
 use Rattle.room_model.specs.Shares.{ArePlain, own}
-use Rattle.room_model.specs.Step.{desk_asks, room_after}
+use Rattle.room_model.specs.Step.{desk_asks, moves_in, room_after}
 use Rattle.room_model.specs.Vehicles.{duty, mobilise, mobilise_held, mobilised, off, off_duty}
 use Rattle.room_model.specs.Vehicles.{on_duty, stand_down, stand_down_held, standby, standby_at}
 use Rattle.room_model.specs.Vehicles.{stands_by, turn_stood_down}
@@ -53,33 +55,9 @@ other_desk d h r a at w apart =
     (cond (is_ok (desk_asks h a at r)) (cross_other d h a r (apply r (changes_of (desk_asks h a at r)))) None))) apart)
 
 -- ---- changes that a share can follow
-plain_refuse : (b : Bool) (e : Refusal) (x : Verdict) → ArePlain (changes_of x)
-    → ArePlain (changes_of (refuse_if b e x))
-unfolding refuse_if
-plain_refuse true e x f = tt
-plain_refuse false e x f = f
-
-plain_held : (o : Option Vehicle) (l : Option Loan) (f : Vehicle → Verdict)
-    → ((v : Vehicle) → ArePlain (changes_of (f v))) → ArePlain (changes_of (where_held o l f))
-plain_held None l f g = tt
-plain_held (Some v) l f g = g v
-
-plain_active : (o : Option Incident) (f : Incident → Verdict)
-    → ((i : Incident) → ArePlain (changes_of (f i))) → ArePlain (changes_of (where_active o f))
-plain_active None f g = tt
-plain_active (Some i) f g = plain_refuse (not (is_active i.state)) refusal.IncidentNotOpen (f i) (g i)
-
-plain_append : (cs bs : List Change) → ArePlain cs → ArePlain bs → ArePlain (cs ++ bs)
-plain_append [] bs f g = g
-plain_append (c ∷ cs) bs f g = (f.0, plain_append cs bs f.1 g)
-
 plain_calls : (m : ℕ) (cs : List Call) → ArePlain (map (moved_call m) cs)
 plain_calls m [] = tt
 plain_calls m (c ∷ cs) = (tt, plain_calls m cs)
-
-plain_turn : (at : ℕ) (o : Option Turn) → ArePlain (turn_stood_down at o)
-plain_turn at None = tt
-plain_turn at (Some t) = (tt, tt)
 
 plain_merge : (n m : Option Incident) (b : Bool) (cs : List Call)
     → ArePlain (changes_of (merge_of n m b cs))
@@ -115,25 +93,17 @@ settles a = false
 
 pub desk_plain : (d : ℕ) (a : Ask) (at : ℕ) (r : Room) → settles a ≡ false
     → ArePlain (changes_of (desk_asks d a at r))
-unfolding mobilise change_needs merge close stand_down standby duty off lend withdraw recall give_back clear
+unfolding change_needs merge close standby duty off lend withdraw recall give_back clear
 desk_plain d (ask.Decline c) at r l = cc
 desk_plain d (ask.Accept c) at r l = cc
-desk_plain d (ask.Mobilise n c) at r l =
-    plain_active (incident_of d n r) (mobilise_held d (held d c r) (lent d c r) at (λ k. served d n k r))
-    (λ i.
-    plain_held (held d c r) (lent d c r) (mobilised d i at (λ k. served d n k r))
-    (λ v. plain_refuse _ _ _ (plain_refuse _ _ _ (plain_refuse _ _ _ (plain_refuse _ _ _ (tt, (tt, (tt, (tt, tt)))))))))
+desk_plain d (ask.Mobilise n c) at r l = mobilise_plain d n c at r
 desk_plain d (ask.Needs n needs) at r l =
     plain_active (incident_of d n r) (needs_changed needs (λ k. served d n k r)) (λ i. plain_refuse _ _ _ (tt, tt))
 desk_plain d (ask.Merge n m) at r l = plain_merge _ _ _ _
 desk_plain d (ask.Close n) at r l =
     plain_active (incident_of d n r) (close_active (is_attended d n r)) (λ i. plain_refuse _ _ _ (tt, tt))
-desk_plain d (ask.StandDown c) at r l =
-    plain_held (held d c r) (lent d c r) (stand_down_held at (open_turn d c r))
-    (λ v.
-    plain_refuse _ _ _ (plain_append (turn_stood_down at (open_turn d c r))
-    (DropAssignment v.callsign ∷ PutVehicle (record v { status = Returning }) ∷ []) (plain_turn at (open_turn d c r))
-    (tt, (tt, tt))))
+desk_plain d (ask.Moves ms) at r l = moves_plain d (moves_in ms) at r
+desk_plain d (ask.StandDown c) at r l = stand_down_plain d c at r
 desk_plain d (ask.Standby c p) at r l =
     plain_held (held d c r) (lent d c r) (stands_by p (λ n. is_some (point_of d n r)) at)
     (λ v. plain_refuse _ _ _ (plain_standby p _ at v))

@@ -3,8 +3,8 @@ use Rattle.std.proofs.Common.{ap, eq-eqb, sym, ◌∙◌}
 use Rattle.std.proofs.lemmas.Cmp.{nat_cmp_total}
 use Rattle.std.proofs.lemmas.Map.Lookups.{exact_unsigned}
 use Rattle.std.specs.Ordering.{nat_cmp}
-use Rattle.std.specs.Prelude.{Bool, None, Option, Some, cond, false, filter, filter_map, length}
-use Rattle.std.specs.Prelude.{nat_lt, refl, ℕ, ℤ, ◌&&◌, ◌++◌, ◌==◌, ◌||◌, ◌≡◌}
+use Rattle.std.specs.Prelude.{Bool, List, None, Option, Some, [], cond, false, filter, filter_map}
+use Rattle.std.specs.Prelude.{length, nat_lt, refl, ℕ, ℤ, ◌&&◌, ◌++◌, ◌==◌, ◌||◌, ◌∷◌, ◌≡◌}
 use Rattle.room_place.specs.Choice.{first, least}
 use Rattle.room_place.specs.declared.places.Place.{Place}
 use Rattle.room_types.proofs.KeyedLaws.{row_filter}
@@ -14,6 +14,7 @@ use Rattle.room_types.specs.Keys.{owns_division, owns_incident, owns_loan, owns_
 use Rattle.room_types.specs.Keys.{owns_report, owns_turn, owns_vehicle, pair_cmp, report_key}
 use Rattle.room_types.specs.KeyLemmas.{exact_pair, numbered_total, pairs_total}
 use Rattle.room_types.specs.declared.answers.QueueEntry.{QueueEntry}
+use Rattle.room_types.specs.declared.asks.Move.{Move}
 use Rattle.room_types.specs.declared.asks.Ask.{Ask}
 use Rattle.room_types.specs.declared.asks.NewCall.{NewCall}
 use Rattle.room_types.specs.declared.asks.Press.{Press}
@@ -25,10 +26,14 @@ use Rattle.room_types.specs.declared.tables.Turn.{Turn}
 use Rattle.room_types.specs.declared.tables.Vehicle.{Vehicle}
 use Rattle.room_types.specs.Texts.{Callsign}
 use Rattle.room_model.proofs.AskLaws.{asked_same, clear_same}
+use Rattle.room_model.proofs.MoveFolds.{then_alike}
+use Rattle.room_model.proofs.OwnChanges.{in_order_apply, in_order_own, own_apply_own}
+use Rattle.room_model.proofs.PlainChanges.{move_plain}
 use Rattle.room_model.proofs.Sights.{SeesAsked, SeesCover, SeesIncident, SeesVehicle, SeesVehicles}
 use Rattle.room_model.proofs.Sights.{sees_beside}
 use Rattle.room_model.proofs.Tests.{any_filter, filter_filter, filter_map_among, filter_map_filter}
 use Rattle.room_model.proofs.Tests.{is_equal, keep_keep, keep_row, left_true}
+use Rattle.room_model.specs.Decisions.{changes_of}
 use Rattle.room_model.specs.Calls.{call_in, call_taken}
 use Rattle.room_types.specs.Codes.{is_active, is_mobilised}
 use Rattle.room_model.specs.Moments.{age}
@@ -40,10 +45,12 @@ use Rattle.room_model.specs.Queue.{entries, exception, overdue, shift_over, late
 use Rattle.room_model.specs.Queue.{late_incident, late_turn, unanswered, uncovered, unacknowledged}
 use Rattle.room_model.specs.Queue.{unacknowledged_turn, unserved}
 use Rattle.room_model.specs.Reports.{report_held, report_in}
-use Rattle.room_model.specs.Room.{IsInOrder, Room}
+use Rattle.room_model.specs.Room.{IsInOrder, Room, apply}
 use Rattle.room_model.specs.Shares.{own}
-use Rattle.room_model.specs.Step.{desk_asks}
+use Rattle.room_model.specs.Step.{and_then, ask_of, course, desk_asks, moves_in, single_asks}
+use Rattle.room_model.specs.Step.{verdict_of}
 use Rattle.room_types.specs.Ranks.{is_past}
+use Rattle.room_types.specs.declared.asks.Ask.TheVariants as ask
 use Rattle.room_types.specs.declared.ranks.Rank.TheVariants as rank
 
 module _ (d : ℕ) (r : Room) (in_order : IsInOrder r) where
@@ -233,8 +240,8 @@ module _ (d : ℕ) (r : Room) (in_order : IsInOrder r) where
     same_offers = λ e. sees_own.same_offers;
   }
 
-  pub desk_own : (a : Ask) (at : ℕ) → desk_asks d a at (own d r) ≡ desk_asks d a at r
-  desk_own a at = asked_same d (own d r) r a at (asked_own a at)
+  pub single_own : (a : Ask) (at : ℕ) → single_asks d a at (own d r) ≡ single_asks d a at r
+  single_own a at = asked_same d (own d r) r a at (asked_own a at)
 
   -- a call in the division, and a report of a vehicle that it holds
   pub call_own : (new : NewCall) → call_in d new (own d r) ≡ call_in d new r
@@ -251,7 +258,29 @@ module _ (d : ℕ) (r : Room) (in_order : IsInOrder r) where
       ∙ ap (λ t. report_held (held d c r) t (borrowed d c (own d r)) p at) (turn_own c)
       ∙ ap (λ l. report_held (held d c r) (open_turn d c r) l p at) (sees_own.same_borrowed c)
 
+-- each move by the share of the room that it meets
+course_own : (d : ℕ) (ms : List Move) (at : ℕ) (r : Room) → IsInOrder r
+    → course d ms at (own d r) ≡ course d ms at r
+course_own d [] at r order = refl
+course_own d (m ∷ ms) at r order =
+    let cs = changes_of (single_asks d (ask_of m) at r) in
+    ap (λ x. and_then m x (λ cs. course d ms at (apply (own d r) cs))) (single_own d r order (ask_of m) at)
+    ∙ then_alike m (single_asks d (ask_of m) at r) _ _
+    (sym (course_own d ms at (apply (own d r) cs) (in_order_apply (own d r) cs (in_order_own d r order)))
+    ∙ ap (course d ms at) (sym (own_apply_own d r cs order (move_plain d m at r)))
+    ∙ course_own d ms at (apply r cs) (in_order_apply r cs order))
+
+pub desk_own : (d : ℕ) (r : Room) → IsInOrder r → (a : Ask) (at : ℕ)
+    → desk_asks d a at (own d r) ≡ desk_asks d a at r
+desk_own d r order (ask.Moves ms) at = ap verdict_of (course_own d (moves_in ms) at r order)
+desk_own d r order a at = single_own d r order a at
+
 -- in two rooms with equal shares a desk's request is decided alike
+pub single_equal : (d : ℕ) (a : Ask) (at : ℕ) (r s : Room) → IsInOrder r → IsInOrder s
+    → own d r ≡ own d s → single_asks d a at r ≡ single_asks d a at s
+single_equal d a at r s x y same =
+    sym (single_own d r x a at) ∙ ap (single_asks d a at) same ∙ single_own d s y a at
+
 pub desk_equal : (d : ℕ) (a : Ask) (at : ℕ) (r s : Room) → IsInOrder r → IsInOrder s
     → own d r ≡ own d s → desk_asks d a at r ≡ desk_asks d a at s
 desk_equal d a at r s x y same = sym (desk_own d r x a at) ∙ ap (desk_asks d a at) same ∙ desk_own d s y a at

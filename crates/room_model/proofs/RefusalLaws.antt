@@ -1,12 +1,15 @@
 -- What the machine refuses.
-use Rattle.std.specs.Prelude.{Bool, Err, IfErr, List, None, Ok, Option, Some, false, refl, true, ℕ}
-use Rattle.std.specs.Prelude.{◌≡◌}
+use Rattle.std.specs.Prelude.{Bool, Err, IfErr, List, None, Ok, Option, Some, [], false, refl, true}
+use Rattle.std.specs.Prelude.{ℕ, ◌∷◌, ◌≡◌}
+use Rattle.room_types.specs.declared.asks.Move.{Move}
+use Rattle.room_types.specs.declared.answers.MoveLine.{MoveLine}
 use Rattle.room_types.specs.declared.asks.Ask.{Ask}
 use Rattle.room_types.specs.declared.asks.Event.{Event}
 use Rattle.room_types.specs.declared.asks.NewCall.{NewCall}
 use Rattle.room_types.specs.declared.asks.Press.{Press}
 use Rattle.room_types.specs.declared.asks.Who.{Who}
 use Rattle.room_types.specs.declared.asks.Who.TheVariants.{Crew, Desk, Position}
+use Rattle.room_types.specs.declared.changes.Change.{Change}
 use Rattle.room_types.specs.declared.refusal_statuses.Refusal.{Refusal}
 use Rattle.room_types.specs.declared.tables.Assignment.{Assignment}
 use Rattle.room_types.specs.declared.tables.Call.{Call}
@@ -19,6 +22,7 @@ use Rattle.room_types.specs.declared.tables.Turn.{Turn}
 use Rattle.room_types.specs.declared.tables.Vehicle.{Vehicle}
 use Rattle.room_types.specs.Texts.{Callsign}
 use Rattle.room_model.proofs.DecisionLaws.{by_report}
+use Rattle.room_model.proofs.MoveFolds.{by_ask}
 use Rattle.room_model.specs.Calls.{call_in, call_kept, call_new, call_somewhere, call_taken}
 use Rattle.room_model.specs.Calls.{new_call}
 use Rattle.room_model.specs.CrewJobs.{job_in}
@@ -34,9 +38,10 @@ use Rattle.room_model.specs.Proposals.{propose}
 use Rattle.room_model.specs.Queries.{assignment_at, vehicle_at}
 use Rattle.room_model.specs.Queue.{clear, clear_found, show_queue, show_reports}
 use Rattle.room_model.specs.Reports.{report_held, report_in, report_kept, report_somewhere}
-use Rattle.room_model.specs.Room.{Room}
-use Rattle.room_model.specs.Step.{answer_to, desk_asks, is_of_role, is_of_the_room}
-use Rattle.room_model.specs.Step.{position_asks, who_asks}
+use Rattle.room_model.specs.Room.{Room, apply}
+use Rattle.room_model.specs.Step.{Course, and_then, answer_to, ask_of, course, course_after}
+use Rattle.room_model.specs.Step.{desk_asks, is_of_role, is_of_the_room, line_of, moves_in}
+use Rattle.room_model.specs.Step.{position_asks, single_asks, verdict_of, who_asks}
 use Rattle.room_model.specs.Vehicles.{duty, mobilise, off, show_vehicles, stand_down, standby}
 use Rattle.room_model.specs.Vehicles.{standby_at}
 use Rattle.room_types.specs.declared.asks.Ask.TheVariants as ask
@@ -115,12 +120,38 @@ ruleset by_form = (
   by_exception,
 )
 
+-- ---- moves, one after another
+move_refuses : (d : ℕ) (m : Move) (at : ℕ) (r : Room) → Refuses (single_asks d (ask_of m) at r)
+unfolding mobilise stand_down
+move_refuses d m at r =
+    by_ask (λ a. Refuses (single_asks d a at r)) (λ c. search by_form depth 9)
+    (λ n c. search by_form depth 9) m
+
+after_refuses : (cs : List Change) (l : MoveLine) (x : Course) → Refuses (verdict_of x)
+    → Refuses (verdict_of (course_after cs l x))
+after_refuses cs l (Ok x) h = tt
+after_refuses cs l (Err why) h = h
+
+then_refuses : (m : Move) (x : Verdict) (rest : List Change → Course) → Refuses x
+    → ((cs : List Change) → Refuses (verdict_of (rest cs)))
+    → Refuses (verdict_of (and_then m x rest))
+then_refuses m (Ok x) rest h g = after_refuses x.changes (line_of m x.answer) (rest x.changes) (g x.changes)
+then_refuses m (Err why) rest h g = h
+
+course_refuses : (d : ℕ) (ms : List Move) (at : ℕ) (r : Room)
+    → Refuses (verdict_of (course d ms at r))
+course_refuses d [] at r = tt
+course_refuses d (m ∷ ms) at r =
+    then_refuses m (single_asks d (ask_of m) at r) (λ cs. course d ms at (apply r cs))
+    (move_refuses d m at r) (λ cs. course_refuses d ms at (apply r cs))
+
 module _ (r : Room) where
   desk_refuses : (d : ℕ) (a : Ask) (at : ℕ) → is_of_role (Desk d) a ≡ true
       → Refuses (desk_asks d a at r)
   unfolding show_incidents show_incident show_vehicles show_reports show_queue show_points show_loans show_offers
       show_times propose mobilise change_needs merge close stand_down standby duty off lend withdraw decline accept recall give_back clear
   desk_refuses d (ask.Call f) at h = cc
+  desk_refuses d (ask.Moves ms) at h = course_refuses d (moves_in ms) at r
   desk_refuses d a at h = first_of (cc, search by_form depth 9)
 
   -- ---- calls

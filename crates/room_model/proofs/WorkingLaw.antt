@@ -22,7 +22,7 @@ use Rattle.room_model.proofs.WorkingQueue.{entries_read}
 use Rattle.room_model.specs.Queries.{held, incidents_opened, open_turn, reports_of, turns_of}
 use Rattle.room_model.specs.Queue.{clear, entries}
 use Rattle.room_model.specs.Room.{Room}
-use Rattle.room_model.specs.Step.{desk_asks}
+use Rattle.room_model.specs.Step.{single_asks}
 use Rattle.room_model.specs.RoomAgreements.{IsWellFormed}
 use Rattle.room_model.specs.WorkingRows.{reads_incident, reads_report, working}
 use Rattle.room_types.specs.declared.asks.Ask.TheVariants as ask
@@ -93,5 +93,5 @@ module _ (d at : ℕ) (r : Room) (formed : IsWellFormed r) where
   }
 
 pub desk_working : (d : ℕ) (r : Room) → IsWellFormed r → (a : Ask) (at : ℕ)
-    → desk_asks d a at (working d a at r) ≡ desk_asks d a at r
+    → single_asks d a at (working d a at r) ≡ single_asks d a at r
 desk_working d r formed a at = asked_same d _ r a at (asked_read d at r formed a)

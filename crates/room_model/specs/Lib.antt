@@ -10,6 +10,8 @@ pub mod Events
 pub mod Step
 -- the same over a list of events
 pub mod Run
+-- moves that a desk asks for at once, and their asks one by one
+pub mod Moves
 -- the rows of the room that one division owns
 pub mod Shares
 -- what an event hands to a division
@@ -60,6 +62,7 @@ pub mod PlaceExamples
 pub mod CallExamples
 pub mod IncidentExamples
 pub mod VehicleExamples
+pub mod MoveExamples
 pub mod JobExamples
 pub mod LoansAndOffers
 pub mod ReportExamples

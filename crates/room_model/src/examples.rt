@@ -4,6 +4,7 @@
 ghost use Rattle.room_model.specs.CallExamples.{CallExamples};
 ghost use Rattle.room_model.specs.IncidentExamples.{IncidentExamples};
 ghost use Rattle.room_model.specs.JobExamples.{JobExamples};
+ghost use Rattle.room_model.specs.MoveExamples.{MoveExamples};
 ghost use Rattle.room_model.specs.LoansAndOffers.{LoanExamples, OfferExamples};
 ghost use Rattle.room_model.specs.PlaceExamples.{PlaceExamples};
 ghost use Rattle.room_model.specs.ProposalExamples.{ProposalExamples};
@@ -30,6 +31,11 @@ pub fn incident_examples()
 /// Mobilising and standing down, orders, posts, going on and off duty.
 pub fn vehicle_examples()
     ensures { VehicleExamples }
+{}
+
+/// Moves: a divert, several vehicles at once, and that one refusal undoes all.
+pub fn move_examples()
+    ensures { MoveExamples }
 {}
 
 /// What a crew is told of its incident.

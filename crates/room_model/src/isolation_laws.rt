@@ -19,7 +19,7 @@ ghost use Rattle.room_model.specs.Queries.{kept_call, kept_report, offer_at, veh
 ghost use Rattle.room_model.specs.Room.{Room, IsInOrder, apply};
 ghost use Rattle.room_model.specs.Run.{desk_answers, is_desk, room_run};
 ghost use Rattle.room_model.specs.Shares.{AgreeOn, ArePlain, own};
-ghost use Rattle.room_model.specs.Step.{answer_to, decided, room_after};
+ghost use Rattle.room_model.specs.Step.{answer_to, decided, room_after, single_asks};
 ghost use Rattle.room_model.specs.RoomAgreements.{IsWellFormed};
 ghost use Rattle.room_model.specs.WorkingRows.{working};
 
@@ -78,15 +78,15 @@ pub fn where_nobody_lends_nothing_crosses()
         list_all is_everyday (crossings d es r) ≡ true }
 {}
 
-/// A desk's request is decided by its division's rows, and by the few of them that the request
-/// reads.
+/// A desk's request is decided by its division's rows. What is decided in one step, as each of
+/// several moves is, is decided by the few of them that it reads.
 pub fn desks_decide_by_their_rows()
     ensures share { (d : ℕ) (r : Room) (a : Ask) (at : ℕ) →
         IsInOrder r →
         decided (by_desk d a at) (own d r) ≡ decided (by_desk d a at) r }
     ensures working { (d : ℕ) (r : Room) (a : Ask) (at : ℕ) →
         IsWellFormed r →
-        decided (by_desk d a at) (working d a at r) ≡ decided (by_desk d a at) r }
+        single_asks d a at (working d a at r) ≡ single_asks d a at r }
 {}
 
 /// An event is decided by the rows of who asks. In two rooms that agree on them it is decided

@@ -9,6 +9,7 @@
 //!   nothing else.
 //! - `agreement_laws`: what always holds of a room.
 //! - `first_version_laws`: how a room goes on that was kept before loans were offered.
+//! - `move_laws`: what a desk asks for at once, all or none.
 //! - `refusal_laws`: which refusals there are.
 //! - `repeat_laws`: what changes nothing, a refusal and a message that is sent again.
 //! - `choice_laws`: why a list that is proposed or queued is the only one.
@@ -24,6 +25,7 @@ pub mod digests;
 pub mod examples;
 pub mod first_version_laws;
 pub mod isolation_laws;
+pub mod move_laws;
 pub mod refusal_laws;
 pub mod repeat_laws;
 pub mod rooms;

@@ -8,3 +8,4 @@ pub mod EnrolledLaws
 pub mod CreationLaws
 pub mod Misses
 pub mod Unavailable
+pub mod MoveCourses

@@ -1,5 +1,7 @@
 -- what is decided of an event, or why nothing is
 pub mod EventDecisions
+-- how far moves have come
+pub mod MoveDecisions
 -- what acting on an event makes of the tables
 pub mod ActedEvents
 -- what acting on a list of events makes of a store

@@ -11,7 +11,7 @@ ghost use Rattle.room_model.specs.Calls.{new_call, show_last_serial, take_call};
 ghost use Rattle.room_model.specs.CrewJobs.{show_job};
 ghost use Rattle.room_model.specs.Queries.{assignment_at};
 ghost use Rattle.room_model.specs.Room.{Room};
-ghost use Rattle.room_model.specs.Step.{crew_asks, decided, desk_asks, who_asks};
+ghost use Rattle.room_model.specs.Step.{crew_asks, decided, desk_asks, single_asks, who_asks};
 ghost use Rattle.room_model.specs.RoomAgreements.{IsWellFormed};
 ghost use Rattle.room_tables.specs.RoomsInTables.{Configuration};
 ghost use Rattle.room_tables.specs.FoundRows.{Finds};
@@ -22,6 +22,7 @@ ghost use Rattle.room_store_cache.specs.Cache.{HasFleetOf, IsCacheOf};
 ghost use Rattle.room_store_reads.specs.CrewParts.{HasVehicle};
 ghost use Rattle.room_store_reads.specs.Partitions.{AreKnown};
 
+use crate::move_decisions::decide_moves;
 use crate::store_faults::refusal_of;
 use room_core::call_decisions::{decide_call, decide_last_serial};
 use room_core::crew_decisions::{decide_crew, decide_job};
@@ -104,8 +105,34 @@ fn for_desk<S: Alter>(
     ensures fleet { cache.new.fleet ≡ cache.old.fleet }
     ensures reads { ReadsOnly S.Store conn.old conn.new (unless_unavailable result) }
 {
-    let reads = reads_of(division, &event.ask);
-    let beside = match load_history_rows(alloc, conn, division, &reads, event.at, cache) {
+    match &event.ask {
+        Ask::Moves(moves) => decide_moves(alloc, conn, division, moves, event.at),
+        ask => for_ask(alloc, conn, plan, cache, division, ask, event.at),
+    }
+}
+
+// What a division's desk asks by anything but moves.
+fn for_ask<S: Alter>(
+    alloc: Global,
+    conn: &mut Connection<S>,
+    plan: &Plan,
+    cache: &mut Cache,
+    division: DivisionNumber,
+    ask: &Ask,
+    at: Moment,
+) -> Result<Decision, Refusal>
+    requires room { HasRoomSchema S.Store conn.old }
+    requires open { StandsOpen S.Store conn.old }
+    ensures decided { Finds S.Store conn.old conn.new (unless_unavailable result) (λ room x.
+        IsWellFormed room → room.plan ≡ plan.now.areas → AreKnown cache.old room
+        → x ≡ single_asks division ask.now at room) }
+    ensures known { Finds S.Store conn.old conn.new (unless_unavailable result) (λ room _.
+        IsWellFormed room → AreKnown cache.old room → AreKnown cache.new room) }
+    ensures fleet { cache.new.fleet ≡ cache.old.fleet }
+    ensures reads { ReadsOnly S.Store conn.old conn.new (unless_unavailable result) }
+{
+    let reads = reads_of(division, ask);
+    let beside = match load_history_rows(alloc, conn, division, &reads, at, cache) {
         Ok(beside) => beside,
         Err(fault) => return Err(refusal_of(fault)),
     };
@@ -113,7 +140,7 @@ fn for_desk<S: Alter>(
         Ok(slice) => slice,
         Err(fault) => return Err(refusal_of(fault)),
     };
-    let decision = decide_desk(alloc, plan, &slice, &event.ask, event.at);
+    let decision = decide_desk(alloc, plan, &slice, ask, at);
     drop(slice);
     decision
 }

@@ -28,6 +28,7 @@ mod digest_events;
 mod event_decisions;
 pub mod event_runs;
 mod fleet_enrolment;
+mod move_decisions;
 pub mod opened_store;
 mod served_store;
 pub mod store;

@@ -1,5 +1,5 @@
 //! The rows of the tables that don't grow with time, and open turns of the fleet's vehicles.
-ghost use Rattle.std.specs.Prelude.{◌≡◌, Some, false, IfErr, IsTrue, OnOk};
+ghost use Rattle.std.specs.Prelude.{◌≡◌, None, Some, false, IfErr, IfSome, IsTrue, OnOk};
 ghost use Rattle.room_tables.specs.FoundRows.{Finds};
 ghost use Rattle.room_tables_schema.specs.FileConnections.{HasRoomSchema, StandsOpen};
 ghost use Rattle.room_tables_schema.specs.declared.database_faults.Fault.TheVariants.{Memory};
@@ -64,6 +64,21 @@ impl Fleet {
         ensures { result.now ≡ self.now.rows }
     {
         &self.rows
+    }
+
+    /// Whether it is known.
+    pub fn is_known(&self) -> bool
+        ensures { result ≡ self.now.is_known }
+    {
+        self.is_known
+    }
+
+    /// The open turn of a vehicle's order, if it is known.
+    pub fn known_turn(&self, key: &(Callsign, Number)) -> Option<Turn>
+        ensures { (room : Room) → AreTurnsOf self.now.turns.kept room → IfSome result (λ t.
+            (row_at numbered_cmp turn_key room.turns key.now ≡ Some t) × (t.ended ≡ None)) }
+    {
+        self.turns.get(key)
     }
 
     /// Reads the tables, where nothing is known. A refusal is of memory or of storage.

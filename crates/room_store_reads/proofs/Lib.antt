@@ -9,3 +9,5 @@ pub mod MergedNumbers
 pub mod KnownRows
 -- the rows that a request reads, of the fleet and beside it
 pub mod FleetReads
+-- what is known of the room that moves meet
+pub mod MoveReads

@@ -8,3 +8,5 @@ pub mod Partitions
 pub mod KnownParts
 -- what the parts of a vehicle's rows are of the room
 pub mod CrewParts
+-- what moves read of the room
+pub mod MoveParts

@@ -7,6 +7,7 @@ pub mod crew_reads;
 mod filled_views;
 mod incident_reads;
 mod known_parts;
+pub mod move_rows;
 mod partitions;
 pub mod request_reads;
 mod row_unions;

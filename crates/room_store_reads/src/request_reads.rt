@@ -142,6 +142,11 @@ pub fn reads_of(division: DivisionNumber, ask: &Ask) -> Reads
         Ask::Loans => row!(loans: All),
         Ask::Offers => row!(offers: All),
         Ask::Times(from, to) => row!(incidents: Opened(from, to)),
-        Ask::SetPoint(_, _, _) | Ask::Order | Ask::Job | Ask::Report(_) | Ask::Last => NOTHING,
+        Ask::SetPoint(_, _, _)
+        | Ask::Moves(_)
+        | Ask::Order
+        | Ask::Job
+        | Ask::Report(_)
+        | Ask::Last => NOTHING,
     }
 }

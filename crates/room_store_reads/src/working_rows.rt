@@ -314,8 +314,8 @@ fn last_turn<S: Alter>(
     }
 }
 
-// The key of that turn, where the vehicle is there and had an order.
-fn last_key(vehicle: Option<Vehicle>) -> Option<(Callsign, Number)>
+/// The key of that turn, where the vehicle is there and had an order.
+pub(crate) fn last_key(vehicle: Option<Vehicle>) -> Option<(Callsign, Number)>
     ensures { (t : Turn) → is_last_turn vehicle t ≡ is_turn result t }
 {
     let vehicle = vehicle?;

@@ -123,6 +123,13 @@ pub struct VehicleLine {
     pub status: Status,
 }
 
+/// A vehicle that was sent by the order of this number, or was stood down.
+#[derive(Clone, Copy)]
+pub struct MoveLine {
+    pub callsign: Callsign,
+    pub order: Option<Number>,
+}
+
 /// A standby point, with the number of vehicles that hold it at the moment.
 #[derive(Clone, Copy)]
 pub struct PointLine {
@@ -189,6 +196,8 @@ pub enum Answer {
     Proposals(Listed<Proposal>),
     /// The order's number and the vehicle.
     Mobilised(Number, Callsign),
+    /// What became of each move, in their order.
+    Moved(Listed<MoveLine>),
     /// The request was carried out, and there is nothing to show.
     Done,
     Vehicles(Listed<VehicleLine>),

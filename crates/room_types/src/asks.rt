@@ -52,6 +52,23 @@ pub struct Press {
     pub place: Place,
 }
 
+/// A vehicle to send to an incident, or to stand down where none is named.
+#[derive(Clone, Copy)]
+pub struct Move {
+    pub callsign: Callsign,
+    pub incident: Option<Number>,
+}
+
+/// How many moves may follow the first one of a list.
+pub const MORE_MOVES: usize = 7;
+
+/// Moves that are made one after another, all or none: the first one, and those that follow it.
+#[derive(Clone, Copy)]
+pub struct Moves {
+    pub first: Move,
+    pub others: [Option<Move>; MORE_MOVES],
+}
+
 /// What is asked: one variant for each path of the HTTP interface.
 #[derive(Clone, Copy)]
 pub enum Ask {
@@ -68,6 +85,8 @@ pub enum Ask {
     Merge(Number, Number),
     Close(Number),
     Vehicles,
+    /// Vehicles sent and stood down.
+    Moves(Moves),
     StandDown(Callsign),
     /// To a point, or to none.
     Standby(Callsign, Option<PointNumber>),

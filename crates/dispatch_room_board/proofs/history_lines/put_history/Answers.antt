@@ -6,7 +6,7 @@ pub returns : goal.returns
 returns c =
     on_ok_weaker c.put_rows-2.result
     (λ turns.
-    history_shown c.args.now c.args.history.now c.args.page.now c.put_subject.new.page c.put_rows.new.page
+    history_shown c.args.now c.args.history.now c.args.page.now c.put_summary.new.page c.put_rows.new.page
     c.put_rows-2.new.page
-    c.in_ok-put_subject.ensures c.in_ok-put_rows.ensures turns)
+    c.in_ok-put_summary.ensures c.in_ok-put_rows.ensures turns)
     c.put_rows-2.ensures

@@ -15,8 +15,11 @@ returns-then-is_endless g c =
       between = record { printed = _; done = _ };
       found = Ok c.in_ok-journal.journal;
       is = c.in_ok-journal.ensures.opens _;
-      rest = rw endless
-          (c.door_of.result, c.door_of.ensures.door, rw c.door_of.ensures.deaf at c.serve_at.ensures);
+      rest = rw endless (
+        c.acceptor_of.result,
+        c.acceptor_of.ensures.acceptor,
+        rw c.acceptor_of.ensures.deaf at c.serve_at.ensures,
+      );
     }
 
 pub returns-else-is_endless : goal.returns-else-is_endless

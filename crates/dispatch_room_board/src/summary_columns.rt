@@ -1,8 +1,8 @@
 //! The incident that a history is of, read and shown.
 ghost use Rattle.std.specs.Prelude.{◌≡◌, IfOk, OnOk, string_bytes};
 ghost use Rattle.dispatch_room_board.specs.BoardCells.{text_of};
-ghost use Rattle.dispatch_room_board.specs.Histories.{IsSubject, state_text, subject_columns};
-ghost use Rattle.dispatch_room_board.specs.Histories.{subject_lines, subject_texts, subject_title};
+ghost use Rattle.dispatch_room_board.specs.Histories.{IsSummary, state_text, summary_columns};
+ghost use Rattle.dispatch_room_board.specs.Histories.{summary_lines, summary_texts, summary_title};
 ghost use Rattle.dispatch_room_board.specs.CellLayout.{row_of};
 ghost use Rattle.dispatch_room_board.specs.Pages.{Adds, line_of};
 ghost use Rattle.dispatch_room_board.specs.declared.board_pages.Paint.TheVariants.{Plain};
@@ -22,7 +22,7 @@ use std::alloc::{AllocError, Global};
 
 /// The incident that a history is of.
 #[derive(Clone, Copy)]
-pub struct Subject {
+pub struct IncidentSummary {
     pub number: Number,
     /// The number of its state: 0 active, 1 closed, 2 merged.
     pub state: u8,
@@ -36,10 +36,10 @@ pub struct Subject {
     pub first_order: Option<Moment>,
 }
 
-impl FromJson for Subject {
-    ghost says = { IsSubject };
+impl FromJson for IncidentSummary {
+    ghost says = { IsSummary };
 
-    fn from_json(value: &Value) -> Option<Subject> {
+    fn from_json(value: &Value) -> Option<IncidentSummary> {
         let members = member(value, "number")
             .zip(member(value, "state"))
             .zip(member(value, "into"))
@@ -55,7 +55,7 @@ impl FromJson for Subject {
                     (((((((number, state), into), class), place), needs), served), opened),
                     first_order,
                 ),
-            ) => Some(Subject {
+            ) => Some(IncidentSummary {
                 number,
                 state,
                 into,
@@ -77,44 +77,49 @@ const TITLES: &str = " class place          needed served              age first
 const COLUMNS: [Column; 6] = [Right(5), Left(14), Left(6), Left(12), Right(10), Right(11)];
 
 /// Adds the incident as it is at a moment.
-pub fn put_subject(
+pub fn put_summary(
     alloc: Global,
     page: &mut Page,
-    subject: &Subject,
+    summary: &IncidentSummary,
     now: Moment,
 ) -> Result<(), AllocError>
     ensures { OnOk result (Adds page.old page.new
-        (subject_lines page.old.colour now subject.now)) }
+        (summary_lines page.old.colour now summary.now)) }
 {
-    let title = title_of(alloc, subject)?;
+    let title = title_of(alloc, summary)?;
     page.put_spaced(Paint::Title, title.as_str())?;
     page.put_line(Paint::Plain, TITLES)?;
-    put_row(alloc, page, subject, now)
+    put_row(alloc, page, summary, now)
 }
 
 // Adds what else is shown of the incident.
-fn put_row(alloc: Global, page: &mut Page, subject: &Subject, now: Moment) -> Result<(), AllocError>
+fn put_row(
+    alloc: Global,
+    page: &mut Page,
+    summary: &IncidentSummary,
+    now: Moment,
+) -> Result<(), AllocError>
     ensures { OnOk result (Adds page.old page.new (line_of page.old.colour Plain
-        (row_of subject_columns (subject_texts now subject.now)))) }
+        (row_of summary_columns (summary_texts now summary.now)))) }
 {
     let cells = [
-        BoardCell::Number(u64::from(subject.class.get())),
-        BoardCell::Place(subject.place),
-        BoardCell::Counts(subject.needs.counts()),
-        BoardCell::Served(subject.served),
-        since(subject.opened, now),
-        since_any(subject.first_order, now),
+        BoardCell::Number(u64::from(summary.class.get())),
+        BoardCell::Place(summary.place),
+        BoardCell::Counts(summary.needs.counts()),
+        BoardCell::Served(summary.served),
+        since(summary.opened, now),
+        since_any(summary.first_order, now),
     ];
     page.put_row(alloc, Paint::Plain, &COLUMNS, &cells)
 }
 
 // The number of the incident, and what became of it.
-#[tactic(auto, unfolding(crate::specs::Histories::subject_title))]
-fn title_of(alloc: Global, subject: &Subject) -> Result<String, AllocError>
-    ensures { IfOk result (λ text. string_bytes text ≡ subject_title subject.now) }
+#[tactic(auto, unfolding(crate::specs::Histories::summary_title))]
+fn title_of(alloc: Global, summary: &IncidentSummary) -> Result<String, AllocError>
+    ensures { IfOk result (λ text. string_bytes text ≡ summary_title summary.now) }
 {
-    let number = subject.number.get();
-    let state = text_of(alloc, &state(subject.state, subject.into))?;
+    let number = summary.number.get();
+    let state = text_of(alloc, &state(summary.state, summary.into))?;
     let state = state.as_str();
     format!(in alloc; "Incident {number}: {state}")
 }

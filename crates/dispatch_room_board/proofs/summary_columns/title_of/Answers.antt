@@ -1,10 +1,10 @@
 use Rattle.std.proofs.Common.{◌∙◌, append_assoc}
 use Rattle.std.proofs.lemmas.Result.{IfOk-weaker}
-use Rattle.dispatch_room_board.specs.Histories.{subject_title}
-use Rattle.dispatch_room_board.proofs.subject_columns.title_of.Goals as goal
+use Rattle.dispatch_room_board.specs.Histories.{summary_title}
+use Rattle.dispatch_room_board.proofs.summary_columns.title_of.Goals as goal
 
 pub returns : goal.returns
-unfolding subject_title
+unfolding summary_title
 returns c =
     IfOk-weaker c.format.result _ _
     (λ s h.

@@ -1,5 +1,5 @@
 use Rattle.dispatch_room_board.proofs.Readings.{read_both, read_none}
-use Rattle.dispatch_room_board.proofs.subject_columns.SubjectFromJson.from_json.Goals as goal
+use Rattle.dispatch_room_board.proofs.summary_columns.IncidentSummaryFromJson.from_json.Goals as goal
 
 pub returns-in-None : goal.returns-in-None
 returns-in-None c =
