@@ -91,6 +91,7 @@ BEFORE = [
     ('GET /last', [report('mobile', 1)]),
     ('GET /last', []),
     ('GET /vehicles/A1/reports', [report('leave', 2)]),
+    ('POST /moves', [ANEW, duty('A1'), call(1), call(2, 'TQ350850'), mobilise('A1')]),
     ('POST /vehicles/B1/off', [ANEW]),
 ]
 

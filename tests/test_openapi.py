@@ -91,6 +91,7 @@ def part_of(schema, how):
                   'callsign_at': {'type': 'string', 'pattern': '^[A-Z0-9]{1,8}$'},
                   'note_at': {'type': 'string', 'x-max-bytes': 120},
                   'button_at': {'type': 'string', 'enum': BUTTONS},
+                  'moves_at': {'type': 'array', 'minItems': 1, 'maxItems': 8},
                   'needs_at': {'type': 'array', 'minItems': 3, 'maxItems': 3,
                                'not': {'enum': [[0, 0, 0]]}}}[how]
     return {name: schema.get(name) for name in wanted}, wanted
