@@ -35,7 +35,7 @@ METHODS = {'GET', 'POST', 'HEAD', '-'}
 # The paths of the room, with N, C and DAY for numbers, callsigns and days. What else a client
 # makes up is 'other', so that nobody outside decides how much there is to keep.
 PATHS = """
-    - /call /report /order /job /last /queue /queue/C/N/clear /loans /offers /points
+    - /call /report /order /job /last /queue /queue/C/N/clear /loans /moves /offers /points
     /points/N /times/DAY /incidents /incidents/N /incidents/N/propose /incidents/N/mobilise
     /incidents/N/needs /incidents/N/merge /incidents/N/close /vehicles /vehicles/C/duty
     /vehicles/C/off /vehicles/C/standdown /vehicles/C/standby /vehicles/C/lend
