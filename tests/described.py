@@ -115,8 +115,11 @@ def some(schema):
             return whole(schema)
         case 'string':
             return text(schema)
+        case 'object':
+            return {name: some(it) for name, it in schema['properties'].items()}
         case 'array':
-            return [some(schema['items']) for _ in range(schema['minItems'])]
+            count = random.randint(schema['minItems'], schema['maxItems'])
+            return [some(schema['items']) for _ in range(count)]
 
 
 def right(schema):
@@ -128,7 +131,11 @@ def right(schema):
 
 
 def beyond(schema):
-    """What is just out of a range: whole numbers, lists with such a number, a text too long."""
+    """What is just out of a range: whole numbers, lists with such a number, lists that are too
+    short or too long, a text too long."""
+    if schema.get('items', {}).get('type') == 'object':
+        return [[some(schema['items']) for _ in range(count)]
+                for count in (schema['minItems'] - 1, schema['maxItems'] + 1)]
     if 'items' in schema:
         others = [schema['items']['maximum']] * (schema['minItems'] - 1)
         return [[*others, it] for it in beyond(schema['items'])]

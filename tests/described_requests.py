@@ -82,6 +82,7 @@ KNOWN = {'c': lambda: random.choice(['A1', 'A2', 'A3', 'B1', 'C1']),
          'place': lambda: random.choice(['TQ300800', 'TQ 305 805', 'TQ3000081000', 'TQ600800']),
          'until': lambda: int(time.time()) + random.choice([-10, 2, 99_999, 99_999, 99_999]),
          'needs': lambda: random.choice([[1, 0, 0], [1, 1, 0], [0, 1, 0]]),
+         'moves': lambda: [{'incident': random.choice([None, 1, 2, 3, 4]), 'vehicle': 'A1'}],
          'to': lambda: random.choice([1, 2]), 'point': lambda: random.choice([None, 1, 2, 9]),
          'number': lambda: max(1, next(COUNT) - random.choice([0, 0, 0, 1])),
          'serial': lambda: max(1, next(COUNT) - random.choice([0, 0, 0, 1]))}

@@ -279,7 +279,9 @@ def learned(content):
     vehicles = [it['vehicle'] for name in ('vehicles', 'offers', 'loans')
                 for it in shown.get(name, [])]
     if vehicles:
-        return {'c': lambda: random.choice(vehicles)}
+        return {'c': lambda: random.choice(vehicles),
+                'moves': lambda: [{'incident': random.choice([None, 1, 2, 3, 4]),
+                                   'vehicle': random.choice(vehicles)}]}
     if reports:
         report = random.choice(reports)
         return {'c': lambda: report['vehicle'], 'n': lambda: report['number']}
@@ -289,7 +291,7 @@ def learned(content):
 
 
 # What is asked before, to know what is there.
-FIRST = {'/report': '/order', '/queue/{c}/{n}/clear': '/queue', **{
+FIRST = {'/report': '/order', '/queue/{c}/{n}/clear': '/queue', '/moves': '/vehicles', **{
     f'/incidents/{{n}}{it}': '/incidents'
     for it in ('', '/propose', '/mobilise', '/needs', '/merge', '/close')}, **{
     f'/vehicles/{{c}}/{it}': f'/{first}' for first, paths in [
