@@ -8,9 +8,10 @@ import re
 import shutil
 import subprocess
 
-from preloaded import PreloadedTestCase, clock
-from room import FLEET, PATIENT, PLAN, PROGRAM, dump, message, run, serving, talk
-from scripts import ROWS, answers, messages
+from played_scripts import ScriptTestCase
+from preloaded import PreloadedTestCase
+from room import PATIENT, PLAN, PROGRAM, message, run, serving, talk
+from scripts import ROWS, messages
 
 SCRIPTS = sorted((ROWS / 'history').glob('*.rows'))
 PATH = re.compile('/job|/last|/incidents/([1-9][0-9]*)|/vehicles/[A-Z0-9]{1,8}/reports')
@@ -22,33 +23,9 @@ def is_of_history(it):
     return named is not None and int(named[1] or 1) <= 2147483647
 
 
-class History(PreloadedTestCase):
-    def setUp(self):
-        super().setUp()
-        self.room = self.folder / 'example.db'
-        run('init', self.room, PLAN)
-        run('import', self.room, FLEET)
-
-    def play(self, asked, *words):
-        """The answers to the messages of a script, and the rows of the room after it."""
-        room = self.fresh(self.room)
-        switches = clock(it.moment for it in asked)
-        sent = ''.join(it.text() for it in asked).encode()
-        got, status, said = self.program.serve(switches, room, sent, *words, ask=talk)
-        found = answers(got.decode(), asked)
-        self.assertEqual((status, len(found)), (0, len(asked)), f'it printed {said!r}')
-        return found, dump(room)
-
+class History(ScriptTestCase):
     def test_scripts(self):
-        self.assertTrue(SCRIPTS, 'there is no script')
-        for path in SCRIPTS:
-            asked, got = messages(path), []
-            with self.subTest(f'{path.name}: each message is answered'):
-                got, _ = self.play(asked, '--history')
-            for it, answer, before in zip(asked, got, [None, *got]):
-                with self.subTest(f'{path.name}: {it.line}'):
-                    self.assertTrue(it.fits(answer, before),
-                                    f'  wanted {it.wanted}\n  got    {answer}')
+        self.check_scripts(SCRIPTS, '--history')
 
     def test_nothing_changes(self):
         """The room is the same without the questions."""

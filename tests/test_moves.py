@@ -7,9 +7,9 @@ that moment, and what is refused leaves the rows as they were. By default the pa
 import json
 import subprocess
 
-from preloaded import PreloadedTestCase, clock
-from room import FLEET, PLAN, PROGRAM, dump, run, talk
-from scripts import ROWS, Message, answers, messages
+from played_scripts import ScriptTestCase
+from room import PROGRAM, dump
+from scripts import ROWS, Message, messages
 
 SCRIPTS = sorted((ROWS / 'moves').glob('*.rows'))
 NO_PATH = '{"error":"NoPath","number":36}'
@@ -38,32 +38,9 @@ def one_by_one(it):
     return [one(it, move) for move in json.loads(it.body)['moves']] if it.status == '200' else []
 
 
-class Moves(PreloadedTestCase):
-    def setUp(self):
-        super().setUp()
-        self.room = self.folder / 'example.db'
-        run('init', self.room, PLAN)
-        run('import', self.room, FLEET)
-
-    def play(self, asked, *words):
-        """The answers to the messages of a script, and the rows of the room after it."""
-        room = self.fresh(self.room)
-        switches = clock(it.moment for it in asked)
-        sent = ''.join(it.text() for it in asked).encode()
-        got, status, said = self.program.serve(switches, room, sent, *words, ask=talk)
-        found = answers(got.decode(), asked)
-        self.assertEqual((status, len(found)), (0, len(asked)), f'it printed {said!r}')
-        return found, dump(room)
-
+class Moves(ScriptTestCase):
     def test_scripts(self):
-        self.assertTrue(SCRIPTS, 'there is no script')
-        for path in SCRIPTS:
-            asked = messages(path)
-            got, _ = self.play(asked, '--history')
-            for it, answer, before in zip(asked, got, [None, *got]):
-                with self.subTest(f'{path.name}: {it.line}'):
-                    self.assertTrue(it.fits(answer, before),
-                                    f'  wanted {it.wanted}\n  got    {answer}')
+        self.check_scripts(SCRIPTS, '--history')
 
     def test_one_by_one(self):
         for path in SCRIPTS:
