@@ -47,23 +47,25 @@ def history(calls=(), turns=(), **members):
 
 
 @contextlib.contextmanager
-def peer(speak):
-    """Something that listens, takes one connection and speaks to it; gives its address, and the
-    bytes that it was sent before it spoke."""
+def peer(*speaks):
+    """Something that listens, takes one connection after another, as many as there are ways to
+    speak, and speaks to each; gives its address, and the bytes that it was sent on each before it
+    spoke."""
     heard = []
     with socket.create_server(('127.0.0.1', free_port())) as listener:
         def serve():
             with contextlib.suppress(OSError):
-                stream, _ = listener.accept()
-                with stream:
-                    stream.settimeout(60)
-                    heard.append(b'')
-                    while not heard[0].endswith(b'Connection: close\r\n\r\n'):
-                        piece = stream.recv(65536)
-                        if not piece:
-                            return
-                        heard[0] += piece
-                    speak(stream)
+                for speak in speaks:
+                    stream, _ = listener.accept()
+                    with stream:
+                        stream.settimeout(60)
+                        heard.append(b'')
+                        while not heard[-1].endswith(b'Connection: close\r\n\r\n'):
+                            piece = stream.recv(65536)
+                            if not piece:
+                                return
+                            heard[-1] += piece
+                        speak(stream)
         thread = threading.Thread(target=serve, daemon=True)
         thread.start()
         try:

@@ -8,7 +8,7 @@ import re
 import string
 import time
 
-from described import beyond, right, wrong, wrong_text
+from described import beyond, fits, right, wrong, wrong_text
 
 TOKENS = {'Desk': ['deskone1', 'desktwo2'], 'Position': ['takerone'],
           'Crew': ['crewofa1', 'crewofa2', 'crewofa3', 'crewofb1', 'crewofc1']}
@@ -80,6 +80,7 @@ KNOWN = {'c': lambda: random.choice(['A1', 'A2', 'A3', 'B1', 'C1']),
          'n': lambda: random.randint(1, 4), 'into': lambda: random.randint(1, 4),
          'day': lambda: time.strftime('%Y-%m-%d', time.gmtime()),
          'place': lambda: random.choice(['TQ300800', 'TQ 305 805', 'TQ3000081000', 'TQ600800']),
+         'metres': lambda: random.choice([1, 500, 5000, 99999]),
          'until': lambda: int(time.time()) + random.choice([-10, 2, 99_999, 99_999, 99_999]),
          'needs': lambda: random.choice([[1, 0, 0], [1, 1, 0], [0, 1, 0]]),
          'moves': lambda: [{'incident': random.choice([None, 1, 2, 3, 4]), 'vehicle': 'A1'}],
@@ -88,10 +89,15 @@ KNOWN = {'c': lambda: random.choice(['A1', 'A2', 'A3', 'B1', 'C1']),
          'serial': lambda: max(1, next(COUNT) - random.choice([0, 0, 0, 1]))}
 
 
+def value(schema, known):
+    """A value that a schema takes: what is known by its name, if anything is and fits, else any."""
+    it = known and known()
+    return it if known and fits(schema, it) else right(schema)
+
+
 def values(schemas, known):
-    """Values that schemas take, by name: those that are known, else any."""
-    return {name: known[name]() if name in known else right(schema)
-            for name, schema in schemas.items()}
+    """Values that schemas take, by name."""
+    return {name: value(schema, known.get(name)) for name, schema in schemas.items()}
 
 
 class Sender:

@@ -17,6 +17,8 @@ HOLDS = {
         'room_types/specs/Ranks': 'Some 180', 'room_types/src/ranks': 'Some(180)',
         'examples/wall/ranks.js': '[UNSERVED]: 180',
         'room_model/specs/DayTimes': 'nat_le t 180', 'room_incident/src/day_times': '180',
+        'room_model/specs/ClosedIncidents': 'take 100',
+        'room_incident/src/closed_incidents': '100',
         'room_types/src/numbers': 'Bounded', 'room_tables_rows/specs/ReadableColumns': 'number'},
     'a rank of the queue': {
         'room_types/src/ranks': 'Rank::Unanswered => 8', 'room_types/specs/Ranks': 'rank_number',

@@ -2,6 +2,7 @@
 and what it says of a peer that is silent, drips, refuses or talks no HTTP."""
 # needs: python3 sqlite3
 # builds: dispatch_room
+import json
 import os
 import pty
 import re
@@ -159,6 +160,25 @@ Loans: 0
         self.check('incident', (status, shown, err),
                    (1, ['Incident: refused: 36 NoPath', 'Proposals: 1'], ''))
 
+    def test_an_exception(self):
+        """A report out of turn says what it was, where the room serves the vehicle's reports; any
+        other room is asked for them in vain, and no part is missing."""
+        pressed = message('crewofa1', 'POST /report',
+                          '{"button":"scene","number":1,"order":0,"place":"TQ310810"}')
+        for words, notes in [(['--history'], ['scene: wrong, no order, TQ 31000 81000, .. GMT']),
+                             ([], [])]:
+            with serving(self.room, 3, *PATIENT, *words) as (port, process):
+                ask(port, *self.duty, pressed)
+                status, out, err = board(f'127.0.0.1:{port}')
+                process.wait(30)
+            lines = re.sub(r'[0-9:]+ GMT$', '.. GMT', out, flags=re.M).split('\n')[2:]
+            queue = lines[:lines.index('')]
+            self.check(f'{words}', (status, queue[:2], queue[2].split()[:7], queue[3:], err),
+                       (0, ['Queue: 1', ' what                     of                  vehicle'
+                                        '      waited'],
+                        'report out of turn report 1'.split() + ['A1'],
+                        [f'         {it}' for it in notes], ''))
+
 
 class Wire(TestCase):
     """What is said to a peer, and what is made of what it says."""
@@ -185,6 +205,61 @@ class Wire(TestCase):
         self.check('requests with an incident', heard,
                    requests('deskone1', *PATHS[:2], '/incidents/2147483647',
                             '/incidents/2147483647/propose', *PATHS[2:]))
+
+    def told(self, queue, *said, words=()):
+        """The board of a peer that says this of its queue and then, on one connection more for
+        each, these bytes; and what it was asked on each."""
+        entries = ','.join(f'{{"number":{number},"rank":{rank},"since":1795588739,'
+                           f'"vehicle":"{vehicle}"}}' for number, rank, vehicle in queue)
+        first = b''.join([answer(f'{{"queue":[{entries}]}}'), *EMPTY[1:]])
+        with peer(*(lambda stream, it=it: stream.sendall(it)
+                    for it in [first, *said])) as (address, heard):
+            return board(address, *words), heard
+
+    def test_reports(self):
+        """They are asked for once for each vehicle, of eight at most, and each stands below the
+        entry of its vehicle and number; what is no answer with reports tells none."""
+        def reports(*told):
+            return answer(json.dumps({'reports': [
+                {'button': button, 'cleared': False, 'moment': 1795588739, 'number': number,
+                 'order': order, 'outcome': outcome, 'place': [599999, 100000], 'status': 1}
+                for number, button, outcome, order in told]}))
+        longest = (2147483647, 'hospital', 'skipped', 2147483647)
+        (status, out, err), heard = self.told(
+            [(7, 4, 'A1'), (5, 4, 'A3'), (8, 4, 'A1'), (0, 6, 'S1'), (2147483647, 4, 'AMB12345')],
+            reports((7, 'leave', 'late', 3), (9, 'home', 'stale', 4))
+            + answer('{"error":"NoPath","number":36}', '404 Not Found') + reports(longest))
+        self.check('what is asked', heard[1], requests(
+            'deskone1', *(f'/vehicles/{it}/reports' for it in ['A1', 'A3', 'AMB12345'])))
+        self.check('what is shown', (status, out[:out.index('\nIncidents')], err), (0, '''\
+Room at Wed, 25 Nov 2026 06:40:00 GMT
+
+Queue: 5
+ what                     of                  vehicle      waited
+ report out of turn       report 7            A1          0:01:01
+         leave: late, order 3, TQ 99999 00000, 6:38:59 GMT
+ report out of turn       report 5            A3          0:01:01
+ report out of turn       report 8            A1          0:01:01
+ shift is over                                S1          0:01:01
+ report out of turn       report 2147483647   AMB12345    0:01:01
+         hospital: skipped, order 2147483647, TQ 99999 00000, 6:38:59 GMT
+''', ''))
+        self.assertLessEqual(max(map(len, out.split('\n'))), 80)
+        many = [f'V{at}' for at in range(12)]
+        (status, out, err), heard = self.told([(1, 4, it) for it in many], b'')
+        self.check('of many vehicles', heard[1], requests(
+            'deskone1', *(f'/vehicles/{it}/reports' for it in many[:8])))
+        self.check('what is not told', (status, out.count('GMT'), err), (0, 1, ''))
+
+    def test_calls(self):
+        """A room is called once more only where it says of an exception; where it is silent then,
+        the board is shown as it was heard."""
+        for what, queue, calls in [('no entry', [], 1), ('others', [(0, 6, 'A1'), (1, 2, 'A1')], 1),
+                                   ('an exception', [(0, 6, 'A1'), (1, 4, 'A1')], 2)]:
+            (status, _, err), heard = self.told(queue, b'', b'')
+            self.check(what, (status, err, len(heard)), (0, '', calls))
+        (status, out, err), _ = self.told([(1, 4, 'A1')], words=['--patience', '8'])
+        self.check('a room that is silent', (status, out.count('GMT'), err), (0, 1, ''))
 
     def asked_by(self, host, *words):
         """How a board ends that asks with these words at a name of a peer on this machine, and what

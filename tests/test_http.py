@@ -92,6 +92,9 @@ BEFORE = [
     ('GET /last', []),
     ('GET /vehicles/A1/reports', [report('leave', 2)]),
     ('POST /moves', [ANEW, duty('A1'), call(1), call(2, 'TQ350850'), mobilise('A1')]),
+    ('GET /times/1970-01-01/classes', []),
+    ('GET /closed/1970-01-01/near/TQ301800/100/from/1',
+     [desk('POST /incidents/1/merge', into=2)]),
     ('POST /vehicles/B1/off', [ANEW]),
 ]
 

@@ -117,8 +117,9 @@ class Lines(TestCase):
         document = (TOP / 'docs' / 'HTTP.md').read_text()
         paths = set(re.findall(r'`(?:GET|POST) (/[\w/]+)`', document))
         self.check('there are paths', {'/call', '/times/DAY', '/queue/C/N/clear'} < paths, True)
-        asked = [it.replace('DAY', '2026-03-29').replace('/C/', '/A1/').replace('/N', '/7')
-                 for it in paths]
+        shown = {'DAY': '2026-03-29', 'C': 'A1', 'N': '7', 'PLACE': 'TQ3203480467',
+                 'METRES': '500'}
+        asked = [re.sub('[A-Z]+', lambda it: shown[it[0]], path) for path in paths]
         log = ''.join(f'2026-03-29T08:15:00Z desk 1 GET {it} 200 0 ms\n' for it in asked)
         found = samples(printed(log))
         for path in sorted(paths):

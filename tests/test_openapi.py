@@ -17,7 +17,7 @@ from described_requests import KNOWN, Sender, message, operations, wrong_ones
 from room import FLEET, PATIENT, TOP, TestCase, made, run, serving
 
 SEED = 58
-WALK = 4000
+WALK = 4500
 WRONG_ROUNDS = 10
 
 VALIDATOR = '''
@@ -261,7 +261,7 @@ class Client:
 REPORT = 4
 
 # How often is asked what much else stands on, where all else is asked once.
-OFTEN = {'/call': 4, '/incidents/{n}/mobilise': 4, '/vehicles/{c}/duty': 2,
+OFTEN = {'/call': 4, '/report': 4, '/incidents/{n}/mobilise': 4, '/vehicles/{c}/duty': 2,
          '/vehicles/{c}/lend': 4, '/vehicles/{c}/accept': 4}
 
 # The first number of a refusal around the room, and that which comes after 2147483647 numbers.

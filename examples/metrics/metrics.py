@@ -32,18 +32,21 @@ LONGEST_ANSWER = 16 << 20  # bytes
 LINE = re.compile(r'(\d{4}-\d\d-\d\dT\d\d:\d\d:\d\dZ) (?:none|(?:desk|position|crew) \w+) '
                   r'(\S+) (\S+) (\d{3}) (\d+) ms')
 METHODS = {'GET', 'POST', 'HEAD', '-'}
-# The paths of the room, with N, C and DAY for numbers, callsigns and days. What else a client
-# makes up is 'other', so that nobody outside decides how much there is to keep.
+# The paths of the room, with N, C, DAY, PLACE and METRES for numbers, callsigns, days, grid references
+# and distances. What else a client makes up is 'other', so that nobody outside decides how much there
+# is to keep.
 PATHS = """
     - /call /report /order /job /last /queue /queue/C/N/clear /loans /moves /offers /points
-    /points/N /times/DAY /incidents /incidents/N /incidents/N/propose /incidents/N/mobilise
-    /incidents/N/needs /incidents/N/merge /incidents/N/close /vehicles /vehicles/C/duty
-    /vehicles/C/off /vehicles/C/standdown /vehicles/C/standby /vehicles/C/lend
+    /points/N /times/DAY /times/DAY/classes /closed/DAY/from/N /closed/DAY/vehicle/C/from/N
+    /closed/DAY/near/PLACE/METRES/from/N /incidents /incidents/N /incidents/N/propose
+    /incidents/N/mobilise /incidents/N/needs /incidents/N/merge /incidents/N/close /vehicles
+    /vehicles/C/duty /vehicles/C/off /vehicles/C/standdown /vehicles/C/standby /vehicles/C/lend
     /vehicles/C/withdraw /vehicles/C/decline /vehicles/C/accept /vehicles/C/recall
     /vehicles/C/giveback /vehicles/C/reports
     """.split()
 OTHER = 'other'
-FORMS = {r'\bN\b': r'\\d{1,10}', r'\bC\b': '[A-Z0-9]{1,8}', r'\bDAY\b': r'\\d{4}-\\d\\d-\\d\\d'}
+FORMS = {r'\bN\b': r'\\d{1,10}', r'\bC\b': '[A-Z0-9]{1,8}', r'\bDAY\b': r'\\d{4}-\\d\\d-\\d\\d',
+         r'\bPLACE\b': r'[A-Z]{2}\\d{6,10}', r'\bMETRES\b': r'\\d{1,5}'}
 
 
 def pattern(path):

@@ -33,6 +33,10 @@ SUMMARIES = {
     'Loans': 'The loans in which the division lends or borrows.',
     'Offers': 'The offers in which the division lends or borrows.',
     'Times': 'The incidents of a day, each with the seconds to its first order.',
+    'ClassTimes': 'How many incidents of a day are of each class, and how many had an order.',
+    'Closed': 'The incidents of a day that are closed or merged, a page at a time.',
+    'ClosedBy': 'Those of them that a vehicle was sent to.',
+    'ClosedNear': 'Those of them that are at most so far from a place.',
     'Order': "The vehicle's order, its post and its status.",
     'Job': 'The order, with the class of its incident and the notes of its calls.',
     'Report': 'A button was pressed.',
@@ -40,12 +44,14 @@ SUMMARIES = {
 
 # The answers that are named otherwise than their path; all other paths are answered `Done`.
 ANSWERS = {'Call': ['Called'], 'Propose': ['Proposals'], 'Mobilise': ['Mobilised'],
-           'Moves': ['Moved'], 'Report': ['Reported'], 'Job': ['Job', 'Order'],
-           'Last': ['LastReport', 'LastSerial']}
+           'Moves': ['Moved'], 'ClosedBy': ['Closed'], 'ClosedNear': ['Closed'],
+           'Report': ['Reported'], 'Job': ['Job', 'Order'], 'Last': ['LastReport', 'LastSerial']}
 
 PARAMETERS = {'Number': 'The number of an incident.', 'Callsign': 'The callsign of a vehicle.',
-              'PointNumber': 'The number of a standby point.', 'Day': "A day of the plan's zone."}
+              'PointNumber': 'The number of a standby point.', 'Day': "A day of the plan's zone.",
+              'Place': 'A grid reference without spaces.', 'Metres': 'How far from it at most.'}
 OF_REPORT = 'The number of a report.'
+OF_PAGE = 'The least number that an incident of the page may have.'
 
 OBJECT = 'An object with exactly these members, of at most 1024 bytes.'
 EMPTY = 'Nothing, or an object without members.'
@@ -59,10 +65,15 @@ def small(name):
     return name[0].lower() + name[1:]
 
 
+def meaning(path, kind):
+    if kind == 'Number' and path in sources.searches():
+        return OF_PAGE
+    return OF_REPORT if (path, kind) == ('Clear', 'Number') else PARAMETERS[kind]
+
+
 def parameter(path, name, kind):
-    meaning = OF_REPORT if (path, kind) == ('Clear', 'Number') else PARAMETERS[kind]
-    return {'name': name, 'in': 'path', 'required': True, 'description': meaning,
-            'schema': schemas.given(kind)}
+    return {'name': name, 'in': 'path', 'required': True, 'description': meaning(path, kind),
+            'schema': schemas.parameter(kind)}
 
 
 def parameters(path):

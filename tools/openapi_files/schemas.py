@@ -21,6 +21,9 @@ REFERENCE = {'type': 'string',
              'description': 'A grid reference: the letters of a square, then three, four or five '
                             'digits of easting and as many of northing.'}
 
+# A path has no spaces.
+PATH_REFERENCE = {**REFERENCE, 'pattern': REFERENCE['pattern'].replace(' ?', '')}
+
 KINDS = 'How many ambulances, cars and support vehicles.'
 
 
@@ -127,6 +130,11 @@ def given(name):
     return named(GIVEN[name]) if name in GIVEN else of_both(name)
 
 
+def parameter(name):
+    """The schema of a parameter of a path."""
+    return PATH_REFERENCE if name == 'Place' else given(name)
+
+
 def or_null(name):
     """What may be null stands in its place, for a name can't be (OpenAPI 3.0.3, section 4.7.24)."""
     it = of_struct(name) if name in contents.structs() else answered(name)
@@ -138,6 +146,10 @@ def answered(name):
     held = re.fullmatch('(Option|Listed)<(.*)>', name)
     if held:
         return or_null(held[2]) if held[1] == 'Option' else listed(answered(held[2]))
+    several = re.fullmatch(r'\[(\w+); (\w+)\]', name)
+    if several:
+        count = sources.constant('room_types/src/answers.rt', several[2])
+        return listed(answered(several[1]), count)
     if name in contents.structs() or name in ANSWERED:
         return named(ANSWERED.get(name, name))
     if name in ('Kind', 'Status', 'State', 'Rank'):

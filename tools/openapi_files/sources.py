@@ -101,9 +101,18 @@ def paths_of_history():
     return re.findall(r'Path::(\w+)', re.search(r'matches!\((.*?)\)', text, re.S)[1])
 
 
+def searches():
+    """The types of the parameters of each path of a search: its day, by what is sought, and the first
+    number."""
+    text = crate('room_http_requests/specs/RequestTable.antt')
+    found = re.findall(r'^search_path \(?(\w+).* = path\.(\w+)$', text, re.M)
+    held = variants('room_types/src/asks.rt', 'Sought')
+    return {path: ['Day', *held[sought], fields('Search')['first']] for sought, path in found}
+
+
 def parameters():
     """The types of the parameters of each path."""
-    return variants('room_http_requests/src/request_table.rt', 'Target')
+    return {**variants('room_http_requests/src/request_table.rt', 'Target'), **searches()}
 
 
 def roles(path):
@@ -162,9 +171,8 @@ def page():
 
 def written(pattern):
     """How the page writes a path."""
-    for name, letters in {'n': 'N', 'c': 'C', 'day': 'DAY'}.items():
-        pattern = pattern.replace(f'{{{name}}}', letters)
-    return pattern
+    names = {'n': 'N', 'c': 'C', 'day': 'DAY', 'place': 'PLACE', 'metres': 'METRES'}
+    return re.sub(r'\{(\w+)\}', lambda it: names[it[1]], pattern)
 
 
 def entries():

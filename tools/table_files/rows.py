@@ -113,6 +113,8 @@ CHANGED = (
     Table('vehicles', 'vehicle', 'Vehicle', ('x.callsign',), overwrites=True),
     Table('turns', 'turn', 'Turn', ('x.callsign', 'x.order'), loads=(
         load('turns_of', *OF_INCIDENT),
+        load('vehicle_turns', {'c': 'Callsign', 'd': 'ℕ'},
+             OF_VEHICLE, equal_number('division', 'd')),
     ), inserts=True, overwrites=True),
     Table('assignments', 'assignment', 'Assignment', ('x.callsign',), inserts=True, drops=True),
     Table('points', 'point', 'Point', ('x.division', 'x.number')),

@@ -12,6 +12,7 @@ use Rattle.room_types.specs.Keys.{same_callsign, turn_key}
 use Rattle.room_types.specs.KeyLemmas.{numbered_total, pairs_total}
 use Rattle.room_types.specs.Slices.{IsActive}
 use Rattle.room_types.specs.Texts.{Callsign}
+use Rattle.room_types.specs.declared.asks.Sought.{Sought}
 use Rattle.room_types.specs.declared.codes.Kind.{Kind}
 use Rattle.room_types.specs.declared.tables.Call.{Call}
 use Rattle.room_types.specs.declared.tables.Incident.{Incident}
@@ -20,15 +21,18 @@ use Rattle.room_types.specs.declared.tables.Turn.{Turn}
 use Rattle.room_types.specs.declared.tables.Vehicle.{Vehicle}
 use Rattle.room_model.proofs.Sights.{SeesCover, SeesIncident, SeesVehicle}
 use Rattle.room_model.proofs.Tests.{among_filter, any_filter, either_true, filter_among}
-use Rattle.room_model.proofs.Tests.{filter_filter, left_true, none_of, right_true, row_among}
+use Rattle.room_model.proofs.Tests.{filter_filter, filters_turned, left_true, none_of, right_true}
+use Rattle.room_model.proofs.Tests.{row_among}
 use Rattle.room_model.proofs.WorkingDesk.{found_active}
+use Rattle.room_model.specs.ClosedIncidents.{incidents_found, is_sought}
 use Rattle.room_model.specs.Proposals.{eligible}
 use Rattle.room_model.specs.Queries.{active_incidents, calls_of, held, holders, incident_of}
-use Rattle.room_model.specs.Queries.{incidents_opened, is_attended, is_candidate, is_given}
-use Rattle.room_model.specs.Queries.{is_nearer, kept_call, kept_report, lent, link_target}
-use Rattle.room_model.specs.Queries.{open_turn, point_of, served, turns_of, vehicle_at}
+use Rattle.room_model.specs.Queries.{incidents_opened, incidents_over, is_attended, is_candidate}
+use Rattle.room_model.specs.Queries.{is_given, is_nearer, kept_call, kept_report, lent, link_target}
+use Rattle.room_model.specs.Queries.{open_turn, point_of, served, turns_by, turns_of, vehicle_at}
 use Rattle.room_model.specs.Room.{Room}
 use Rattle.room_model.specs.RoomAgreements.{IsWellFormed}
+use Rattle.dispatch_room_archive.proofs.IncidentsLeft.{found_left}
 use Rattle.dispatch_room_archive.proofs.RenewedAgreements.{active_stays, open_stays}
 use Rattle.dispatch_room_archive.proofs.RenewedAgreements.{with_its_incident}
 use Rattle.dispatch_room_archive.proofs.RowsLeft.{call_there, incident_there, report_there}
@@ -206,20 +210,37 @@ module _ (since : ℕ) (b : Behind) (r : Room) (w : IsWellFormed r) (h : StaysBe
       (subst (IsOver since) (row_among pair_cmp incident_key pairs_total r.incidents i w.order.incidents m)
       (h.incidents i.division i.number e)).1
 
+  since_stays : (i : Incident) (from : ℤ) → Among i r.incidents → int_lt from (pos since) ≡ false
+      → int_le from (pos i.opened) ≡ true → not (b.incident i.division i.number) ≡ true
+  since_stays i from m late opened =
+      (elim (b.incident i.division i.number) as (λ (x : Bool). b.incident i.division i.number ≡ x → not x ≡ true) [
+        | true ↦ λ e. absurd (not_before from i.opened since late opened (over_before i m e))
+        | false ↦ λ e. refl
+      ]) refl
+
   pub opened_same : (d : ℕ) (from to : ℤ) → int_lt from (pos since) ≡ false
       → incidents_opened d from to new ≡ incidents_opened d from to r
   unfolding incidents_opened
   opened_same d from to late =
       filter_among _ (λ i. not (b.incident i.division i.number)) r.incidents
       (λ i m g.
-      (elim (b.incident i.division i.number) as (λ (x : Bool). b.incident i.division i.number ≡ x → not x ≡ true) [
-        | true ↦
-            λ e.
-            absurd (not_before from i.opened since late
-            (left_true _ _ (right_true (not (is_merged i.state)) _ (right_true (i.division == d) _ g)))
-            (over_before i m e))
-        | false ↦ λ e. refl
-      ]) refl)
+      since_stays i from m late
+      (left_true _ _ (right_true (not (is_merged i.state)) _ (right_true (i.division == d) _ g))))
+
+  -- those of them that are over and sought
+  pub found_same : (d : ℕ) (from to : ℤ) (x : Sought) → int_lt from (pos since) ≡ false
+      → incidents_found d from to x new ≡ incidents_found d from to x r
+  unfolding incidents_found incidents_over
+  found_same d from to x late =
+      found_left b r d from to x
+      ∙ (filters_turned (λ i. not (b.incident i.division i.number)) (is_sought x (λ c. turns_by d c r))
+      (incidents_over d from to r)
+      ∙ ap (filter (is_sought x (λ c. turns_by d c r)))
+      (filters_turned (λ i. not (b.incident i.division i.number)) _ r.incidents
+      ∙ filter_among _ (λ i. not (b.incident i.division i.number)) r.incidents
+      (λ i m g.
+      since_stays i from m late
+      (left_true _ _ (right_true (not (is_active i.state)) _ (right_true (i.division == d) _ g))))))
 
   -- ---- calls and reports by their keys
   pub kept_call_same : (p s : ℕ) → b.call p s ≡ false → kept_call p s new ≡ kept_call p s r

@@ -36,11 +36,11 @@ use Rattle.room_model.specs.RoomAgreements.{IsWellFormed}
 use Rattle.room_model.specs.WorkingRows.{NamedIncidents, NoIncident, OneIncident, TwoIncidents}
 use Rattle.room_model.specs.WorkingRows.{incidents_named, is_among}
 use Rattle.dispatch_room_archive.proofs.AskedAlike.{actives_same, calls_same, cover_same}
-use Rattle.dispatch_room_archive.proofs.AskedAlike.{eligible_same, incident_same, kept_call_same}
-use Rattle.dispatch_room_archive.proofs.AskedAlike.{kept_report_same}
-use Rattle.dispatch_room_archive.proofs.AskedAlike.{left_false, none_passes, of_both}
-use Rattle.dispatch_room_archive.proofs.AskedAlike.{open_turn_same, opened_same, right_false}
-use Rattle.dispatch_room_archive.proofs.AskedAlike.{sees_same, shown_stays, target_same, turns_same}
+use Rattle.dispatch_room_archive.proofs.AskedAlike.{eligible_same, found_same, incident_same}
+use Rattle.dispatch_room_archive.proofs.AskedAlike.{kept_call_same, kept_report_same, left_false}
+use Rattle.dispatch_room_archive.proofs.AskedAlike.{none_passes, of_both, open_turn_same}
+use Rattle.dispatch_room_archive.proofs.AskedAlike.{opened_same, right_false, sees_same}
+use Rattle.dispatch_room_archive.proofs.AskedAlike.{shown_stays, target_same, turns_same}
 use Rattle.dispatch_room_archive.proofs.AskedAlike.{vehicle_same}
 use Rattle.dispatch_room_archive.proofs.QueueAlike.{entries_same}
 use Rattle.dispatch_room_archive.proofs.RenewedAgreements.{active_stays}
@@ -124,6 +124,10 @@ module _ (since : ℕ) (b : Behind) (r : Room) (w : IsWellFormed r) (h : StaysBe
         same_active_calls = λ f k i m. calls_same since b r w h d i.number (shown_stays since b r w h d i m);
         same_opened = λ from to f.
             opened_same since b r w h d from to (subst (λ x. looks_back since b d r x ≡ false) f g);
+        same_classes = λ from to f.
+            opened_same since b r w h d from to (subst (λ x. looks_back since b d r x ≡ false) f g);
+        same_found = λ from to x f.
+            found_same since b r w h d from to x.sought (subst (λ y. looks_back since b d r y ≡ false) f g);
         same_entries = λ f. entries_same since b r w h d at;
         same_all_held = λ f. refl;
         same_assignment = λ f c. refl;

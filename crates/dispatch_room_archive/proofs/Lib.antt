@@ -4,6 +4,7 @@ mod CheckedLemmas
 pub mod DayReportLemmas
 pub mod DecidedAlike
 pub mod GoingOn
+pub mod IncidentsLeft
 pub mod JoinedLemmas
 pub mod LeftBehind
 pub mod LeftLaws

@@ -2,8 +2,7 @@
 -- names an incident that stayed behind.
 use Rattle.std.proofs.Common.{ap, subst, sym, ◌∙◌}
 use Rattle.std.specs.List.{list_any}
-use Rattle.std.specs.Prelude.{Bool, Err, List, None, Ok, Option, Some, [], false, refl, true}
-use Rattle.std.specs.Prelude.{ℕ}
+use Rattle.std.specs.Prelude.{Bool, Err, List, None, Ok, Option, Some, [], false, refl, true, ℕ}
 use Rattle.std.specs.Prelude.{◌∷◌, ◌≡◌}
 use Rattle.room_types.specs.Codes.{is_active}
 use Rattle.room_types.specs.declared.asks.Ask.{Ask}
@@ -32,9 +31,8 @@ use Rattle.room_model.specs.Decisions.{Verdict, changes_of, refuse_if, where_act
 use Rattle.room_model.specs.Queries.{held, incident_of, lent, open_turn, served}
 use Rattle.room_model.specs.Room.{Room, apply, apply_one}
 use Rattle.room_model.specs.RoomAgreements.{IsWellFormed}
-use Rattle.room_model.specs.Step.{Course, and_then, ask_for, ask_of, course}
-use Rattle.room_model.specs.Step.{desk_asks}
-use Rattle.room_model.specs.Step.{moves_in, single_asks, verdict_of, who_asks}
+use Rattle.room_model.specs.Step.{Course, and_then, ask_for, ask_of, course, desk_asks, moves_in}
+use Rattle.room_model.specs.Step.{single_asks, verdict_of, who_asks}
 use Rattle.room_model.specs.Vehicles.{mobilise, mobilise_held, mobilised, stand_down}
 use Rattle.room_model.specs.Vehicles.{stand_down_held}
 use Rattle.room_model.specs.WorkingRows.{incidents_named}

@@ -1,7 +1,7 @@
 -- What becomes of events that speak of what stayed behind.
 use Rattle.std.proofs.Common.{ap, arith, eq-eqb, inl, inr, subst, sym, ◌∙◌}
-use Rattle.std.specs.Prelude.{Bool, Err, List, None, Option, Some, [], cond, false, filter, is_some}
-use Rattle.std.specs.Prelude.{map, max, nat_lt, not, refl, true, ℕ, ℤ, ◌<◌, ◌==◌, ◌||◌, ◌∷◌, ◌≡◌}
+use Rattle.std.specs.Prelude.{Bool, Err, List, None, Option, Some, [], cond, filter, is_some, map}
+use Rattle.std.specs.Prelude.{max, nat_lt, not, refl, true, ℕ, ℤ, ◌<◌, ◌==◌, ◌||◌, ◌∷◌, ◌≡◌}
 use Rattle.room_place.specs.Plans.{division_of}
 use Rattle.room_types.specs.KeyedRows.{keep, put_row, row_at}
 use Rattle.room_types.specs.Keys.{callsign_cmp, numbered_cmp, report_key, vehicle_key}
@@ -10,6 +10,7 @@ use Rattle.room_types.specs.Texts.{Callsign}
 use Rattle.room_types.specs.declared.asks.Ask.{Ask}
 use Rattle.room_types.specs.declared.asks.CallForm.{CallForm}
 use Rattle.room_types.specs.declared.asks.Press.{Press}
+use Rattle.room_types.specs.declared.asks.Search.{Search}
 use Rattle.room_types.specs.declared.asks.Who.{Who}
 use Rattle.room_types.specs.declared.asks.Who.TheVariants.{Crew, Desk, Position}
 use Rattle.room_types.specs.declared.changes.Change.TheVariants.{PutReport, PutVehicle}
@@ -24,9 +25,11 @@ use Rattle.room_model.proofs.DecisionLaws.{by_refuse}
 use Rattle.room_model.proofs.NamedIncidents.{IsIdle, absent_is_refused, idle_changes_nothing}
 use Rattle.room_model.proofs.Others.{put_same}
 use Rattle.room_model.proofs.Questions.{ChangesNothing, IsQuiet, quiet_shows}
-use Rattle.room_model.proofs.Tests.{either_true, or_left, or_right, row_key}
+use Rattle.room_model.proofs.Tests.{either_true, filters_turned, or_left, or_right, row_key}
 use Rattle.room_model.specs.Calls.{call_kept, call_somewhere, new_call}
-use Rattle.room_model.specs.DayTimes.{show_times, times_line, times_of}
+use Rattle.room_model.specs.ClosedIncidents.{from_number, incidents_found, page_of, show_closed}
+use Rattle.room_model.specs.DayTimes.{class_line, show_class_times, show_times, times_line}
+use Rattle.room_model.specs.DayTimes.{times_of}
 use Rattle.room_model.specs.Decisions.{answer_of, changes_of, show, with_changes}
 use Rattle.room_model.specs.Events.{by_crew, by_desk, by_position}
 use Rattle.room_model.specs.Queries.{borrowed, held, incident_of, incidents_opened, kept_call}
@@ -39,34 +42,22 @@ use Rattle.room_model.specs.Step.{decided, desk_asks}
 use Rattle.room_model.specs.WorkingRows.{NamedIncidents, NoIncident, OneIncident, TwoIncidents}
 use Rattle.room_model.specs.WorkingRows.{incidents_named, is_among}
 use Rattle.room_model.specs.RoomAgreements.{IsWellFormed}
+use Rattle.dispatch_room_archive.proofs.IncidentsLeft.{found_left}
 use Rattle.dispatch_room_archive.proofs.MovesAlike.{moves_none, moves_nothing}
 use Rattle.dispatch_room_archive.proofs.RowsLeft.{call_gone, incident_gone, report_gone}
 use Rattle.dispatch_room_archive.specs.Continuation.{IsOver, IsSettled, IsTakenLate, StaysBehind}
 use Rattle.dispatch_room_archive.specs.Continuation.{asks_back, looks_back, moves_behind}
-use Rattle.dispatch_room_archive.specs.Continuation.{names_behind}
-use Rattle.dispatch_room_archive.specs.Continuation.{sends_again, stayed_behind}
+use Rattle.dispatch_room_archive.specs.Continuation.{names_behind, sends_again, stayed_behind}
 use Rattle.dispatch_room_archive.specs.Successor.{Behind, without}
 use Rattle.room_types.specs.declared.answers.Answer.TheVariants as answer
 use Rattle.room_types.specs.declared.asks.Ask.TheVariants as ask
 use Rattle.room_types.specs.declared.refusal_statuses.Refusal.TheVariants as refusal
 
--- two filters, one way round and the other
-turned_at : {X : Type 0} (p q : X → Bool) (x : X) (us vs : List X) (y z : Bool) → p x ≡ y
-    → q x ≡ z → filter p us ≡ filter q vs
-    → filter p (cond z (x ∷ us) us) ≡ filter q (cond y (x ∷ vs) vs)
-turned_at p q x us vs true true e f h = rw (e, f) (ap (λ ws. x ∷ ws) h)
-turned_at p q x us vs true false e f h = rw f h
-turned_at p q x us vs false true e f h = rw e h
-turned_at p q x us vs false false e f h = h
-
-filters_turned : {X : Type 0} (p q : X → Bool) (xs : List X)
-    → filter p (filter q xs) ≡ filter q (filter p xs)
-filters_turned p q [] = refl
-filters_turned p q (x ∷ xs) = turned_at p q x (filter q xs) (filter p xs) (p x) (q x) refl refl (filters_turned p q xs)
-
 looks_quiet : (since : ℕ) (b : Behind) (d : ℕ) (r : Room) (a : Ask)
     → looks_back since b d r a ≡ true → IsQuiet (Desk d) a
 looks_quiet since b d r (ask.Times from to) e = refl
+looks_quiet since b d r (ask.ClassTimes from to) e = refl
+looks_quiet since b d r (ask.Closed from to x) e = refl
 looks_quiet since b d r (ask.Reports c) e = refl
 looks_quiet since b d r (ask.Incident n) e = refl
 looks_quiet since b d r a e = cc
@@ -238,6 +229,34 @@ unfolding show_times incidents_opened
 times_left b r d from to at =
     ap (λ is. show (answer.Times (times_of from to (map times_line is))))
     (filters_turned _ (λ i. not (b.incident i.division i.number)) r.incidents)
+
+pub class_times_left : (b : Behind) (r : Room) (d : ℕ) (from to : ℤ) (at : ℕ)
+    → decided (by_desk d (ask.ClassTimes from to) at) (without b r)
+    ≡ show (answer.ClassTimes (record {
+      from = from;
+      to = to;
+      lines =
+          map
+          (class_line (filter (λ i. not (b.incident i.division i.number)) (incidents_opened d from to r)))
+          (1 ∷ 2 ∷ 3 ∷ []);
+    }))
+unfolding show_class_times incidents_opened
+class_times_left b r d from to at =
+    ap (λ is. show (answer.ClassTimes (record {
+      from = from;
+      to = to;
+      lines = map (class_line is) (1 ∷ 2 ∷ 3 ∷ []);
+    })))
+    (filters_turned _ (λ i. not (b.incident i.division i.number)) r.incidents)
+
+-- ---- the incidents found that are left
+pub closed_left : (b : Behind) (r : Room) (d : ℕ) (from to : ℤ) (x : Search) (at : ℕ)
+    → decided (by_desk d (ask.Closed from to x) at) (without b r)
+    ≡ show (answer.Closed (page_of (from_number x.first
+    (filter (λ i. not (b.incident i.division i.number)) (incidents_found d from to x.sought r)))))
+unfolding show_closed
+closed_left b r d from to x at =
+    ap (λ is. show (answer.Closed (page_of (from_number x.first is)))) (found_left b r d from to x.sought)
 
 -- ---- a vehicle's reports that are left
 pub reports_left : (b : Behind) (r : Room) (d : ℕ) (c : Callsign) (at : ℕ)

@@ -1,7 +1,7 @@
 -- The queue is the same without what stays behind.
 use Rattle.std.proofs.Common.{ap, eqb-true, sym, ◌∙◌}
-use Rattle.std.specs.Prelude.{Bool, None, Option, Some, cond, false, filter_map, not, refl}
-use Rattle.std.specs.Prelude.{true, ℕ, ◌&&◌, ◌++◌, ◌==◌, ◌||◌, ◌≡◌}
+use Rattle.std.specs.Prelude.{Bool, None, Option, Some, cond, false, filter_map, not, refl, true, ℕ}
+use Rattle.std.specs.Prelude.{◌&&◌, ◌++◌, ◌==◌, ◌||◌, ◌≡◌}
 use Rattle.room_types.specs.Codes.{is_active, is_mobilised, is_normal}
 use Rattle.room_types.specs.declared.answers.QueueEntry.{QueueEntry}
 use Rattle.room_types.specs.declared.codes.Kind.{Kind}

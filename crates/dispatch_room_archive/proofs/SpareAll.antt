@@ -57,8 +57,8 @@ use Rattle.room_model.specs.Reports.{back_changes, drop_changes, ends_turn, is_d
 use Rattle.room_model.specs.Reports.{outcome_of, report_held, report_in, report_kept}
 use Rattle.room_model.specs.Reports.{report_somewhere, turn_after, turn_changes}
 use Rattle.room_model.specs.Room.{Room, apply}
-use Rattle.room_model.specs.Step.{ask_of, course, desk_asks, moves_in, position_asks}
-use Rattle.room_model.specs.Step.{single_asks, verdict_of, who_asks}
+use Rattle.room_model.specs.Step.{ask_of, course, desk_asks, moves_in, position_asks, single_asks}
+use Rattle.room_model.specs.Step.{verdict_of, who_asks}
 use Rattle.room_model.specs.Vehicles.{duty, mobilise, mobilise_held, mobilised, off, off_duty}
 use Rattle.room_model.specs.Vehicles.{on_duty, stand_down, stand_down_held, standby, standby_at}
 use Rattle.room_model.specs.Vehicles.{stands_by, turn_stood_down}

@@ -71,10 +71,12 @@ moves_behind b d (ask.Moves ms) =
     list_any (λ m. stayed_behind b d (incidents_named (ask_of m))) (moves_in ms)
 moves_behind b d a = false
 
--- it asks for times from before that moment, for a vehicle's reports of which one stayed behind, or
--- for the history of an incident into which one that stayed behind was merged
+-- it asks for times or incidents from before that moment, for a vehicle's reports of which one
+-- stayed behind, or for the history of an incident into which one that stayed behind was merged
 abbrev pub looks_back : ℕ → Behind → ℕ → Room → Ask → Bool
 looks_back since b d r (ask.Times from to) = int_lt from (pos since)
+looks_back since b d r (ask.ClassTimes from to) = int_lt from (pos since)
+looks_back since b d r (ask.Closed from to x) = int_lt from (pos since)
 looks_back since b d r (ask.Reports c) =
     list_any (λ x. (x.division == d && same_callsign c x.callsign) && b.report x.callsign x.number)
     r.reports

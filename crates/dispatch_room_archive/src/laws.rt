@@ -1,18 +1,20 @@
 //! A room that is renewed. Each law is the contract of a function that does nothing.
-ghost use Rattle.std.specs.Prelude.{◌≡◌, ℕ, ℤ, List, Err, false, filter, map, not, true};
+ghost use Rattle.std.specs.Prelude.{◌≡◌, ℕ, ℤ, List, [], ◌∷◌, Err, false, filter, map, not, true};
 ghost use Rattle.room_place.specs.Plans.{division_of};
 ghost use Rattle.room_types.specs.Texts.{Callsign};
-ghost use Rattle.room_types.specs.declared.answers.Answer.TheVariants.{Reports as ReportsAnswer};
-ghost use Rattle.room_types.specs.declared.answers.Answer.TheVariants.{Times as TimesAnswer};
+ghost use Rattle.room_types.specs.declared.answers.Answer.TheVariants as answer;
 ghost use Rattle.room_types.specs.declared.asks.Ask.{Ask};
-ghost use Rattle.room_types.specs.declared.asks.Ask.TheVariants.{Call, Report, Reports, Times};
+ghost use Rattle.room_types.specs.declared.asks.Ask.TheVariants.{Call, ClassTimes, Closed, Report};
+ghost use Rattle.room_types.specs.declared.asks.Ask.TheVariants.{Reports, Times};
 ghost use Rattle.room_types.specs.declared.asks.CallForm.{CallForm};
 ghost use Rattle.room_types.specs.declared.asks.Event.{Event};
 ghost use Rattle.room_types.specs.declared.asks.Press.{Press};
+ghost use Rattle.room_types.specs.declared.asks.Search.{Search};
 ghost use Rattle.room_types.specs.declared.fleet.Terminal.{Terminal};
 ghost use Rattle.room_types.specs.declared.refusal_statuses.Refusal.TheVariants.{NoSuchIncident};
 ghost use Rattle.room_model.specs.Calls.{call_somewhere, new_call};
-ghost use Rattle.room_model.specs.DayTimes.{times_line, times_of};
+ghost use Rattle.room_model.specs.ClosedIncidents.{from_number, incidents_found, page_of};
+ghost use Rattle.room_model.specs.DayTimes.{class_line, times_line, times_of};
 ghost use Rattle.room_model.specs.Decisions.{show};
 ghost use Rattle.room_model.specs.FleetRows.{AreTerminals};
 ghost use Rattle.room_model.specs.Events.{AreAddressed, by_crew, by_desk, by_position};
@@ -72,8 +74,9 @@ pub fn rooms_go_on_alike()
 {}
 
 /// What a desk asks of the past changes neither room, and so do moves of which one names an
-/// incident that stayed behind. Such an incident is not found in the new room; the times are those
-/// of the incidents that did not stay behind, and a vehicle's reports those that did not.
+/// incident that stayed behind. Such an incident is not found in the new room, by its number or
+/// among those of a day that are over; the times are those of the incidents that did not stay
+/// behind, also by class, and a vehicle's reports those that did not.
 pub fn the_past_is_not_found()
     ensures incident { (since : ℕ) (b : Behind) (old new : Room) (d : ℕ) (a : Ask) (at : ℕ) →
         IsWellFormed old → IsSuccessor since b old new →
@@ -82,12 +85,29 @@ pub fn the_past_is_not_found()
     ensures times { (since : ℕ) (b : Behind) (old new : Room) (d : ℕ) (from to : ℤ) (at : ℕ) →
         IsSuccessor since b old new →
         decided (by_desk d (Times from to) at) new
-        ≡ show (TimesAnswer (times_of from to (map times_line
+        ≡ show (answer.Times (times_of from to (map times_line
         (filter (λ i. not (b.incident i.division i.number)) (incidents_opened d from to old))))) }
+    ensures classes { (since : ℕ) (b : Behind) (old new : Room) (d : ℕ) (from to : ℤ) (at : ℕ) →
+        IsSuccessor since b old new →
+        decided (by_desk d (ClassTimes from to) at) new
+        ≡ show (answer.ClassTimes (record {
+          from = from;
+          to = to;
+          lines = map (class_line
+              (filter (λ i. not (b.incident i.division i.number)) (incidents_opened d from to old)))
+              (1 ∷ 2 ∷ 3 ∷ []);
+        })) }
+    ensures closed { (since : ℕ) (b : Behind) (old new : Room) (d : ℕ) (from to : ℤ) (x : Search)
+        (at : ℕ) →
+        IsSuccessor since b old new →
+        decided (by_desk d (Closed from to x) at) new
+        ≡ show (answer.Closed (page_of (from_number x.first
+        (filter (λ i. not (b.incident i.division i.number))
+        (incidents_found d from to x.sought old))))) }
     ensures reports { (since : ℕ) (b : Behind) (old new : Room) (d : ℕ) (c : Callsign) (at : ℕ) →
         IsSuccessor since b old new →
         decided (by_desk d (Reports c) at) new
-        ≡ show (ReportsAnswer (filter (λ x. not (b.report x.callsign x.number))
+        ≡ show (answer.Reports (filter (λ x. not (b.report x.callsign x.number))
         (reports_of d c old))) }
     ensures old { (since : ℕ) (b : Behind) (old new : Room) (e : Event) →
         IsSuccessor since b old new →

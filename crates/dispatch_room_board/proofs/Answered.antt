@@ -19,8 +19,8 @@ use Rattle.dispatch_room_board.specs.declared.heard_answers.HeardAnswer.{HeardAn
 use Rattle.dispatch_room_board.specs.declared.board_errors.BoardError.{BoardError}
 use Rattle.dispatch_room_board.specs.declared.board_errors.BoardError.TheVariants.{Unheard, Foreign}
 use Rattle.dispatch_room_board.specs.declared.board_errors.BoardError.TheVariants.{Refused}
-use Rattle.dispatch_room_board.specs.Boards.{Befalls, IsDatedAnswer, IsHeardAt, IsNext}
-use Rattle.dispatch_room_board.specs.AnswerRows.{IsJson, IsNoAnswer}
+use Rattle.dispatch_room_board.specs.Boards.{IsHeardAt}
+use Rattle.dispatch_room_board.specs.AnswerRows.{Befalls, IsDatedAnswer, IsJson, IsNext, IsNoAnswer}
 use Rattle.dispatch_room_board.specs.Members.{IsRead}
 use Rattle.dispatch_room_board.specs.HeardAnswers.{Announces, HasNoMessage, IsDated, IsMessage}
 use Rattle.dispatch_room_board.specs.HeardAnswers.{IsNoMessage, fields_in}

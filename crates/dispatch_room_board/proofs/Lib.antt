@@ -8,3 +8,4 @@ pub mod Shown
 pub mod Notes
 pub mod HistoryLines
 pub mod Growing
+pub mod Exceptions

@@ -1,5 +1,6 @@
 -- What one answer gives.
-use Rattle.std.specs.Prelude.{◌≡◌, ◌≢◌, ℕ, List, [], ◌∷◌, IsUtf8, None, Some}
+use Rattle.std.specs.Prelude.{◌≡◌, ◌≢◌, ◌⊎◌, ℕ, List, [], ◌∷◌, IsUtf8, MatchResult, None, Result}
+use Rattle.std.specs.Prelude.{Some}
 use Rattle.serde_json.specs.Data.{Data, Items, no_items, item}
 use Rattle.serde_json.specs.Find.{as_array}
 use Rattle.serde_json.specs.Read.{read}
@@ -7,6 +8,7 @@ use Rattle.dispatch_room_board.specs.declared.heard_answers.HeardAnswer.{HeardAn
 use Rattle.dispatch_room_board.specs.declared.board_errors.BoardError.{BoardError}
 use Rattle.dispatch_room_board.specs.declared.board_errors.BoardError.TheVariants.{Unheard, Foreign}
 use Rattle.dispatch_room_board.specs.declared.board_errors.BoardError.TheVariants.{Refused}
+use Rattle.dispatch_room_board.specs.HeardAnswers.{IsMessage, IsNoMessage}
 use Rattle.dispatch_room_board.specs.Members.{IsRead}
 use Rattle.dispatch_room_board.specs.BoardErrors.{IsErrorIn}
 
@@ -41,3 +43,26 @@ abbrev pub IsNoAnswer : {T : Type 0} → (T → Type 0) → HeardAnswer → Boar
 IsNoAnswer gives message Unheard = ⊥
 IsNoAnswer gives message Foreign = IsRead gives None × IsRead (IsRefused message) None
 IsNoAnswer gives message (Refused number name) = IsRefused message (Refused number name)
+
+-- the answer gives this, and was given at this moment
+abbrev pub IsDatedAnswer : {T : Type 0} → (Data → T → Type 0) → HeardAnswer → T × ℕ → Type 0
+IsDatedAnswer gives message found =
+    IsAnswered gives message found.0 × (message.moment ≡ Some found.1)
+
+-- what was heard begins with such an answer, and the rest follows
+abbrev pub IsNext : {T : Type 0} → (Data → T → Type 0) → List ℕ → List ℕ → T × ℕ → Type 0
+IsNext gives heard rest found =
+    (message : HeardAnswer) × IsMessage heard message rest × IsDatedAnswer gives message found
+
+-- why nothing of the kind was heard: no answer comes next, and nothing is taken, or the next one
+-- does not give it
+abbrev pub Befalls : {T : Type 0} → (Data → T → Type 0) → List ℕ → List ℕ → BoardError → Type 0
+Befalls gives heard rest board_error =
+    (IsNoMessage heard board_error × (rest ≡ heard))
+    ⊎ ((message : HeardAnswer) × IsMessage heard message rest
+    × IsNoAnswer (IsDatedAnswer gives message) message board_error)
+
+-- what the next answer gives, or why it gives nothing of the kind
+abbrev pub IsFound : {T : Type 0} → (Data → T → Type 0) → List ℕ → List ℕ
+    → Result (T × ℕ) BoardError → Type 0
+IsFound gives heard rest found = MatchResult found (IsNext gives heard rest) (Befalls gives heard rest)

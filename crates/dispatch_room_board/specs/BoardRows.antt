@@ -1,5 +1,5 @@
 -- What the rows of the answers say: each field is what the member of its name says.
-use Rattle.std.specs.Prelude.{codes}
+use Rattle.std.specs.Prelude.{codes, None, ◌≡◌}
 use Rattle.serde_json.specs.Data.{Data}
 use Rattle.room_types.specs.declared.answers.QueueEntry.{QueueEntry}
 use Rattle.room_types.specs.declared.answers.IncidentLine.{IncidentLine}
@@ -8,6 +8,7 @@ use Rattle.room_types.specs.declared.answers.VehicleLine.{VehicleLine}
 use Rattle.room_types.specs.declared.answers.PointLine.{PointLine}
 use Rattle.room_types.specs.declared.tables.Offer.{Offer}
 use Rattle.room_types.specs.declared.tables.Loan.{Loan}
+use Rattle.dispatch_room_board.specs.declared.queue_columns.QueueLine.{QueueLine}
 use Rattle.dispatch_room_board.specs.Members.{HasMember, IsBool, IsCallsign, IsClass, IsCounts}
 use Rattle.dispatch_room_board.specs.Members.{IsDivision, IsKind, IsMoment, IsNeed, IsNeeds}
 use Rattle.dispatch_room_board.specs.Members.{IsNumber, IsOrNull, IsPlace, IsPoint, IsRank}
@@ -18,6 +19,11 @@ pub record IsEntry (d : Data) (row : QueueEntry) : Type 0 where
   pub since : HasMember IsMoment (codes "since") d row.since
   pub number : HasMember IsWord (codes "number") d row.number
   pub callsign : HasMember IsVehicle (codes "vehicle") d row.callsign
+
+-- an entry, of which no report is told yet
+pub record IsQueueLine (d : Data) (row : QueueLine) : Type 0 where
+  pub entry : IsEntry d row.entry
+  pub report : row.report ≡ None
 
 pub record IsIncidentLine (d : Data) (row : IncidentLine) : Type 0 where
   pub number : HasMember IsNumber (codes "number") d row.number

@@ -1,7 +1,6 @@
 -- The tables of a board, and what stands in their rows.
 use Rattle.std.specs.Prelude.{◌≡◌, ◌≤◌, ℕ, ◌+◌, ◌-◌, List, [], ◌∷◌, ◌++◌, length, codes, decimal}
-use Rattle.std.specs.Prelude.{nat_le, nat_lt, if◌then◌else◌, Bool, true, false, Option, None}
-use Rattle.std.specs.Prelude.{Some}
+use Rattle.std.specs.Prelude.{nat_le, nat_lt, if◌then◌else◌, Bool, true, false, Option, None, Some}
 use Rattle.room_types.specs.declared.answers.QueueEntry.{QueueEntry}
 use Rattle.room_types.specs.declared.answers.IncidentLine.{IncidentLine}
 use Rattle.room_types.specs.declared.answers.PointLine.{PointLine}
@@ -22,11 +21,14 @@ use Rattle.dispatch_room_board.specs.declared.cell_layout.Column.TheVariants.{Le
 use Rattle.dispatch_room_board.specs.declared.board_pages.Paint.{Paint}
 use Rattle.dispatch_room_board.specs.declared.board_pages.Paint.TheVariants.{Plain, Title, Alarm}
 use Rattle.dispatch_room_board.specs.declared.board_pages.TheConstants.{WIDEST}
+use Rattle.dispatch_room_board.specs.declared.queue_columns.QueueLine.{QueueLine}
+use Rattle.dispatch_room_board.specs.declared.report_lines.ReportLine.{ReportLine}
 use Rattle.dispatch_room_board.specs.declared.table_layouts.TableLayout.{TableLayout}
 use Rattle.dispatch_room_board.specs.BoardCells.{counts_text, kind_text, left_text, named_text}
 use Rattle.dispatch_room_board.specs.BoardCells.{place_text, since_text, status_text}
 use Rattle.dispatch_room_board.specs.CellLayout.{row_of, width_of}
 use Rattle.dispatch_room_board.specs.Pages.{line_of, note_lines, text_line}
+use Rattle.dispatch_room_board.specs.ReportLines.{report_text}
 
 -- what an answer calls the rows, what the table is called, what stands above its rows, its columns,
 -- the texts of a row at a moment, whether something is wrong with it then, and the note below it
@@ -111,16 +113,25 @@ abbrev pub callsign_of : Option (List ℕ) → List ℕ
 callsign_of None = []
 callsign_of (Some callsign) = callsign
 
-abbrev pub entry_table : Table QueueEntry
-entry_table = record {
+-- the words of the report that an entry is for, where it is told
+abbrev pub exception_text : Option ReportLine → List ℕ
+exception_text None = []
+exception_text (Some report) = report_text report
+
+abbrev pub entry_texts : ℕ → QueueEntry → List (List ℕ)
+entry_texts now e =
+    matter_of e.rank ∷ subject_text (subject_of e.rank) e.number ∷ callsign_of e.callsign
+    ∷ waited_of e.rank now e.since ∷ []
+
+abbrev pub queue_table : Table QueueLine
+queue_table = record {
   name = codes "queue";
   title = codes "Queue";
   titles = codes " what                     of                  vehicle      waited";
   columns = Left 24 ∷ Left 19 ∷ Left 8 ∷ Right 10 ∷ [];
-  texts = λ now e. matter_of e.rank ∷ subject_text (subject_of e.rank) e.number ∷ callsign_of e.callsign
-      ∷ waited_of e.rank now e.since ∷ [];
-  is_wrong = λ now e. false;
-  note = λ row. [];
+  texts = λ now line. entry_texts now line.entry;
+  is_wrong = λ now line. false;
+  note = λ line. exception_text line.report;
 }
 
 -- vehicles are lacking

@@ -1,5 +1,6 @@
 -- A board: what it shows of what was heard, and how much of it could be reached.
-use Rattle.std.specs.Prelude.{◌≡◌, ◌⊎◌, ℕ, List, [], ◌++◌, Bool, true, false, codes, None, Some}
+use Rattle.std.specs.Prelude.{◌≡◌, ◌⊎◌, ℕ, List, [], ◌++◌, Bool, true, false, codes, map, None}
+use Rattle.std.specs.Prelude.{Some}
 use Rattle.serde_json.specs.Data.{Data}
 use Rattle.httpdate.specs.Date.{date_text, unix_secs}
 use Rattle.httpdate.specs.declared.date.HttpDate.{HttpDate}
@@ -13,15 +14,18 @@ use Rattle.dispatch_room_board.specs.declared.board_errors.BoardError.{BoardErro
 use Rattle.dispatch_room_board.specs.declared.board_errors.BoardError.TheVariants.{Unheard, Foreign}
 use Rattle.dispatch_room_board.specs.declared.board_errors.BoardError.TheVariants.{Refused}
 use Rattle.dispatch_room_board.specs.Histories.{IsHistory, history_lines, history_title}
-use Rattle.dispatch_room_board.specs.AnswerRows.{IsAnswered, IsList, IsNoAnswer}
+use Rattle.dispatch_room_board.specs.AnswerRows.{Befalls, IsList, IsNext}
 use Rattle.dispatch_room_board.specs.Members.{HasMember, IsRead}
-use Rattle.dispatch_room_board.specs.HeardAnswers.{IsMessage, IsNoMessage}
+use Rattle.dispatch_room_board.specs.HeardAnswers.{IsMessage}
 use Rattle.dispatch_room_board.specs.Pages.{Adds, spaced_line, text_line}
-use Rattle.dispatch_room_board.specs.BoardRows.{IsEntry, IsIncidentLine, IsLoan, IsOffer}
-use Rattle.dispatch_room_board.specs.BoardRows.{IsPointLine, IsProposal, IsVehicleLine}
-use Rattle.dispatch_room_board.specs.BoardTables.{Table, entry_table, incident_table, loan_table}
-use Rattle.dispatch_room_board.specs.BoardTables.{offer_table, point_table, proposal_table}
+use Rattle.dispatch_room_board.specs.BoardRows.{IsIncidentLine, IsLoan, IsOffer, IsPointLine}
+use Rattle.dispatch_room_board.specs.BoardRows.{IsProposal, IsVehicleLine}
+use Rattle.dispatch_room_board.specs.BoardTables.{Table, incident_table, loan_table, offer_table}
+use Rattle.dispatch_room_board.specs.BoardTables.{point_table, proposal_table, queue_table}
 use Rattle.dispatch_room_board.specs.BoardTables.{table_lines, vehicle_table}
+use Rattle.dispatch_room_board.specs.ToldReports.{AreTold, IsQueueAnswer, vehicles_in, with_report}
+use Rattle.dispatch_room_board.specs.declared.queue_columns.QueueLine.{QueueLine}
+use Rattle.dispatch_room_board.specs.declared.told_reports.ToldReport.{ToldReport}
 use Rattle.dispatch_room_board.specs.BoardErrors.{error_text}
 
 -- what is reached where one error more is met: the worst of all
@@ -38,24 +42,6 @@ reached_with AllButRefused (Refused number name) = AllButRefused
 abbrev pub Puts : Renderer → Renderer → List ℕ → Type 0
 Puts old new bytes =
     Adds old.page new.page bytes × (new.rest ≡ old.rest) × (new.reached ≡ old.reached)
-
--- the answer gives this, and was given at this moment
-abbrev pub IsDatedAnswer : {T : Type 0} → (Data → T → Type 0) → HeardAnswer → T × ℕ → Type 0
-IsDatedAnswer gives message found =
-    IsAnswered gives message found.0 × (message.moment ≡ Some found.1)
-
--- what was heard begins with such an answer, and the rest follows
-abbrev pub IsNext : {T : Type 0} → (Data → T → Type 0) → List ℕ → List ℕ → T × ℕ → Type 0
-IsNext gives heard rest found =
-    (message : HeardAnswer) × IsMessage heard message rest × IsDatedAnswer gives message found
-
--- why nothing of the kind was heard: no answer comes next, and nothing is taken, or the next one
--- does not give it
-abbrev pub Befalls : {T : Type 0} → (Data → T → Type 0) → List ℕ → List ℕ → BoardError → Type 0
-Befalls gives heard rest board_error =
-    (IsNoMessage heard board_error × (rest ≡ heard))
-    ⊎ ((message : HeardAnswer) × IsMessage heard message rest
-    × IsNoAnswer (IsDatedAnswer gives message) message board_error)
 
 -- what stands in place of a part
 abbrev pub board_error_lines : Bool → List ℕ → BoardError → List ℕ
@@ -86,6 +72,20 @@ IsPart gives title lines old new = Shows gives lines old new ⊎ ExplainsWhy giv
 -- a table is shown: its rows, or why there are none
 abbrev pub IsShown : {T : Type 0} → (Data → T → Type 0) → Table T → Renderer → Renderer → Type 0
 IsShown says table = IsPart (HasMember (IsList says) table.name) table.title (table_lines table)
+
+-- the queue is shown, each exception with its report, where one is told
+pub record ShowsQueue (told : List ℕ) (old new : Renderer) : Type 0 where
+  pub lines : List QueueLine
+  pub now : ℕ
+  pub next : IsNext IsQueueAnswer old.rest.now new.rest.now (lines, now)
+  pub reports : List ToldReport
+  pub are_told : AreTold (vehicles_in lines) told reports
+  pub page : Adds old.page new.page
+      (table_lines queue_table old.page.colour now (map (with_report reports) lines))
+  pub reached : new.reached ≡ old.reached
+
+abbrev pub IsQueue : List ℕ → Renderer → Renderer → Type 0
+IsQueue told old new = ShowsQueue told old new ⊎ ExplainsWhy IsQueueAnswer queue_table.title old new
 
 -- it is shown what came of an incident, and whom to send to it
 pub record ShowsIncident (old new : Renderer) : Type 0 where
@@ -119,14 +119,15 @@ pub record IsEmpty (heard : List ℕ) (painted : Bool) (renderer : Renderer) : T
   pub colour : renderer.page.colour ≡ painted
   pub reached : renderer.reached ≡ All
 
--- the board of what was heard: its first line, and below it each part, of one answer after another
-pub record IsBoard (heard : List ℕ) (named colour : Bool) (board : Board) : Type 0 where
+-- the board of what was heard, and of what was told of reports: its first line, and below it each
+-- part, of one answer after another
+pub record IsBoard (heard told : List ℕ) (named colour : Bool) (board : Board) : Type 0 where
   pub empty : Renderer
   pub is_empty : IsEmpty heard colour empty
   pub head : Renderer
   pub is_head : IsHead empty head
   pub queue : Renderer
-  pub is_queue : IsShown IsEntry entry_table head queue
+  pub is_queue : IsQueue told head queue
   pub incidents : Renderer
   pub is_incidents : IsShown IsIncidentLine incident_table queue incidents
   pub incident : Renderer

@@ -8,6 +8,8 @@ pub mod BoardRows
 pub mod HeardAnswers
 -- what one answer gives
 pub mod AnswerRows
+-- what is said of a report, and its words
+pub mod ReportLines
 -- what stands in a column
 pub mod BoardCells
 -- the columns of a table
@@ -20,5 +22,7 @@ pub mod BoardTables
 pub mod Histories
 -- why a part is not there
 pub mod BoardErrors
+-- the reports that are told beside a board
+pub mod ToldReports
 -- what a board shows, and how much could be reached
 pub mod Boards

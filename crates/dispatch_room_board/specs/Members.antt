@@ -4,11 +4,13 @@ use Rattle.std.specs.Prelude.{MatchOption, option_and_then}
 use Rattle.serde_json.specs.Data.{Data}
 use Rattle.serde_json.specs.Find.{as_bool, as_null, as_number, as_str, as_u64, at, get}
 use Rattle.room_place.specs.declared.places.Place.{Place}
-use Rattle.room_types.specs.Codes.{kind_number, status_number}
+use Rattle.room_types.specs.Codes.{button_name, kind_number, outcome_name, status_number}
 use Rattle.room_types.specs.Needs.{is_some_need}
 use Rattle.room_types.specs.Ranks.{rank_number}
 use Rattle.room_types.specs.Texts.{is_callsign}
+use Rattle.room_types.specs.declared.codes.Button.{Button}
 use Rattle.room_types.specs.declared.codes.Kind.{Kind}
+use Rattle.room_types.specs.declared.codes.Outcome.{Outcome}
 use Rattle.room_types.specs.declared.codes.Status.{Status}
 use Rattle.room_types.specs.declared.answers.Served.{Served}
 use Rattle.room_types.specs.declared.needs.Counts.{Counts}
@@ -36,6 +38,10 @@ IsWord = IsFrom 0 4294967295
 -- the number of an incident or an order, or a call's serial
 abbrev pub IsNumber : Data → ℕ → Type 0
 IsNumber = IsFrom 1 2147483647
+
+-- a number that was given last: 0 where none was
+abbrev pub IsLast : Data → ℕ → Type 0
+IsLast = IsFrom 0 2147483647
 
 -- the number of a division, a standby point or a call taker's position
 abbrev pub IsDivision : Data → ℕ → Type 0
@@ -87,6 +93,13 @@ IsKind d kind = IsWhole d (kind_number kind)
 
 abbrev pub IsStatus : Data → Status → Type 0
 IsStatus d status = IsWhole d (status_number status)
+
+-- it is the name of this button, or of this outcome
+abbrev pub IsButton : Data → Button → Type 0
+IsButton d button = IsText d (button_name button)
+
+abbrev pub IsOutcome : Data → Outcome → Type 0
+IsOutcome d outcome = IsText d (outcome_name outcome)
 
 abbrev pub IsRank : Data → Rank → Type 0
 IsRank d rank = IsWhole d (rank_number rank)

@@ -1,6 +1,6 @@
 -- What a board asks a room for: requests of HTTP/1.1 (RFC 9112, section 2.1), each a GET.
-use Rattle.std.specs.Prelude.{◌≡◌, ℕ, List, [], ◌++◌, Bool, true, false, codes, decimal, Option}
-use Rattle.std.specs.Prelude.{Some, None}
+use Rattle.std.specs.Prelude.{◌≡◌, ℕ, List, [], ◌∷◌, ◌++◌, Bool, true, false, codes, decimal}
+use Rattle.std.specs.Prelude.{Option, Some, None}
 use Rattle.std.specs.Io.KnownBytes.{Appends}
 
 -- what follows the path in each request, up to the fields that only some have
@@ -41,6 +41,23 @@ requests_with fields incident =
 
 unfoldable pub requests : List ℕ → Option ℕ → List ℕ
 requests token incident = requests_with (fields_of token) incident
+
+-- where a vehicle's reports are asked for
+abbrev pub reports_path : List ℕ → List ℕ
+reports_path callsign = codes "/vehicles/" ++ (callsign ++ codes "/reports")
+
+-- the request for them: the last, where no others follow
+abbrev pub get_reports : List ℕ → List ℕ → List (List ℕ) → List ℕ
+get_reports fields callsign [] = last_get (reports_path callsign) fields
+get_reports fields callsign (c ∷ others) = get (reports_path callsign) fields
+
+-- the requests for those of some vehicles, one after another
+abbrev pub reports_with : List ℕ → List (List ℕ) → List ℕ
+reports_with fields [] = []
+reports_with fields (c ∷ others) = get_reports fields c others ++ reports_with fields others
+
+unfoldable pub report_requests : List ℕ → List (List ℕ) → List ℕ
+report_requests token callsigns = reports_with (fields_of token) callsigns
 
 -- all bytes were written, or the first of them before a write failed
 abbrev pub Sends : {W : Type 0} → (W → Option (List ℕ)) → (W → Bool) → W → W → List ℕ → Bool

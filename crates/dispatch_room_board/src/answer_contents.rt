@@ -3,11 +3,10 @@ ghost use Rattle.std.specs.Prelude.{IfOk, MatchResult};
 ghost use Rattle.serde_json.specs.Data.{Data};
 ghost use Rattle.serde_json.specs.View.{view};
 ghost use Rattle.dispatch_room_board.specs.Members.{IsRead};
-ghost use Rattle.dispatch_room_board.specs.Boards.{IsDatedAnswer};
-ghost use Rattle.dispatch_room_board.specs.AnswerRows.{IsJson, IsNoAnswer};
+ghost use Rattle.dispatch_room_board.specs.AnswerRows.{IsDatedAnswer, IsFound, IsJson, IsNoAnswer};
 
 use crate::board_errors::{BoardError, refusal_in};
-use crate::heard_answers::HeardAnswer;
+use crate::heard_answers::{HeardAnswer, first_message};
 use room_types::numbers::Moment;
 use serde_json::Value;
 use serde_json::error::Category;
@@ -25,6 +24,17 @@ pub trait FromAnswer: Drop {
 
 /// What an answer gives, with its moment, or why it gives nothing of the kind.
 pub type Found<G> = Result<(G, Moment), BoardError>;
+
+/// What the next answer of what was heard gives, and what follows it. Where no answer can be read,
+/// nothing is taken, so none can be read after it.
+pub fn next_in<G: FromAnswer>(alloc: Global, heard: &[u8]) -> Result<(Found<G>, &[u8]), AllocError>
+    ensures { IfOk result (λ found. IsFound G.gives heard.now found.1.now found.0) }
+{
+    match first_message(heard) {
+        Ok((message, rest)) => Ok((found_in(alloc, &message)?, rest)),
+        Err(board_error) => Ok((Err(board_error), heard)),
+    }
+}
 
 /// What an answer gives, with its moment, or why it gives nothing of the kind: it is a refusal, or
 /// no answer of a room. An answer without a date is none.

@@ -5,7 +5,7 @@ ghost use Rattle.dispatch_room_board.specs.Boards.{IsBoard, IsEmpty, reached_wit
 use crate::board_errors::BoardError;
 use crate::board_pages::Page;
 use crate::renderer::Renderer;
-use room_types::answers::{IncidentLine, PointLine, QueueEntry, VehicleLine};
+use room_types::answers::{IncidentLine, PointLine, VehicleLine};
 use room_types::tables::{Loan, Offer};
 use std::alloc::{AllocError, Global};
 
@@ -39,23 +39,30 @@ pub struct Board {
     pub reached: Reached,
 }
 
-/// The board of what was heard after the requests of a desk, with an incident where one was named.
-pub fn board_of(alloc: Global, heard: &[u8], named: bool, colour: bool) -> Result<Board, AllocError>
-    ensures { IfOk result (IsBoard heard.now named colour) }
+/// The board of what was heard after the requests of a desk, with an incident where one was named,
+/// and of what was told after those for the reports of its vehicles.
+pub fn board_of(
+    alloc: Global,
+    heard: &[u8],
+    told: &[u8],
+    named: bool,
+    colour: bool,
+) -> Result<Board, AllocError>
+    ensures { IfOk result (IsBoard heard.now told.now named colour) }
 {
     let mut renderer = Renderer::new(alloc, heard, colour);
-    put_all(&mut renderer, named)?;
+    put_all(&mut renderer, told, named)?;
     Ok(renderer.board())
 }
 
 // Adds all of a board where none of it stands yet.
-fn put_all(renderer: &mut Renderer<'_>, named: bool) -> Result<(), AllocError>
+fn put_all(renderer: &mut Renderer<'_>, told: &[u8], named: bool) -> Result<(), AllocError>
     ensures { OnOk result ((heard : List ℕ) (colour : Bool) → IsEmpty heard colour renderer.old
-        → IsBoard heard named colour
+        → IsBoard heard told.now named colour
         (record { page = renderer.new.page; reached = renderer.new.reached })) }
 {
     renderer.put_moment()?;
-    renderer.put_table::<QueueEntry>()?;
+    renderer.put_queue(told)?;
     renderer.put_table::<IncidentLine>()?;
     renderer.put_incident(named)?;
     renderer.put_table::<VehicleLine>()?;

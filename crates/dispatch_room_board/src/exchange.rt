@@ -1,9 +1,8 @@
 //! The requests of a board sent to a room, and its answers received.
 ghost use Rattle.std.specs.Prelude.{◌≡◌, ◌<◌, ◌≤◌, ◌+◌, ℕ, List, Option, IfOk, false, true, length};
 ghost use Rattle.std.specs.Io.KnownBytes.{Consumes, IsAtEnd};
-ghost use Rattle.dispatch_room_board.specs.Requests.{Sends, requests};
+ghost use Rattle.dispatch_room_board.specs.Requests.{Sends};
 
-use crate::requests::{Asker, requests};
 use room_http_messages::limits::INBOX_ROOM;
 use room_http_messages::sinks::{Sink, write_all};
 use room_http_messages::sources::Source;
@@ -18,13 +17,11 @@ pub const PIECE: usize = INBOX_ROOM;
 
 /// Asks: the requests are written and nothing else, or the first bytes of them before a write
 /// failed. Returns whether all were written.
-pub fn send<W: Sink>(alloc: Global, asker: &Asker, writer: &mut W) -> Result<bool, AllocError>
+pub fn send<W: Sink>(requests: &str, writer: &mut W) -> bool
     requires { W.has_failed writer.old ≡ false }
-    ensures { IfOk result (Sends W.held W.has_failed writer.old writer.new
-        (requests asker.now.token asker.now.incident)) }
+    ensures { Sends W.held W.has_failed writer.old writer.new requests.now result }
 {
-    let text = requests(alloc, asker)?;
-    Ok(write_all(writer, text.as_bytes()).is_ok())
+    write_all(writer, requests.as_bytes()).is_ok()
 }
 
 /// Hears all bytes to the end of the stream, or those before a read failed; at most `MOST_HEARD`

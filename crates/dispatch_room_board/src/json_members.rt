@@ -1,16 +1,17 @@
 //! What the members of an answer's JSON say.
 ghost use Rattle.serde_json.specs.Data.{Data};
 ghost use Rattle.serde_json.specs.View.{view};
-ghost use Rattle.dispatch_room_board.specs.Members.{HasItem, HasMember, IsBool, IsByte, IsCallsign};
-ghost use Rattle.dispatch_room_board.specs.Members.{IsCounts, IsFrom, IsKind, IsNeeds, IsNote};
-ghost use Rattle.dispatch_room_board.specs.Members.{IsOrNull, IsPlace, IsRank, IsRead, IsServed};
-ghost use Rattle.dispatch_room_board.specs.Members.{IsStatus, IsWhole, IsWord};
+ghost use Rattle.room_types.specs.Codes.{Decodes, outcome_name};
+ghost use Rattle.dispatch_room_board.specs.Members.{HasItem, HasMember, IsBool, IsButton, IsByte};
+ghost use Rattle.dispatch_room_board.specs.Members.{IsCallsign, IsCounts, IsFrom, IsKind, IsNeeds};
+ghost use Rattle.dispatch_room_board.specs.Members.{IsNote, IsOrNull, IsOutcome, IsPlace, IsRank};
+ghost use Rattle.dispatch_room_board.specs.Members.{IsRead, IsServed, IsStatus, IsWhole, IsWord};
 
 use room_place::bounded_numbers::Bounded;
 use room_place::places::Place;
 use room_types::answers::Served;
 use room_types::callsign::Callsign;
-use room_types::codes::{Kind, Status};
+use room_types::codes::{Button, Kind, Outcome, Status};
 use room_types::needs::{Counts, Needs};
 use room_types::note::Note;
 use room_types::ranks::Rank;
@@ -151,6 +152,42 @@ impl FromJson for Status {
             Some(number) => Status::from_number(number),
             None => None,
         }
+    }
+}
+
+impl FromJson for Button {
+    ghost says = { IsButton };
+
+    fn from_json(value: &Value) -> Option<Button> {
+        match value.as_str() {
+            Some(name) => Button::parse(name),
+            None => None,
+        }
+    }
+}
+
+impl FromJson for Outcome {
+    ghost says = { IsOutcome };
+
+    fn from_json(value: &Value) -> Option<Outcome> {
+        match value.as_str() {
+            Some(name) => outcome_of(name),
+            None => None,
+        }
+    }
+}
+
+// The outcome of this name; none where no outcome has it.
+fn outcome_of(name: &str) -> Option<Outcome>
+    ensures { Decodes outcome_name name.now result }
+{
+    match name {
+        "normal" => Some(Outcome::Normal),
+        "skipped" => Some(Outcome::Skipped),
+        "wrong" => Some(Outcome::Wrong),
+        "late" => Some(Outcome::Late),
+        "stale" => Some(Outcome::Stale),
+        _ => None,
     }
 }
 

@@ -1,17 +1,21 @@
 //! The queue: its entries read and shown.
-ghost use Rattle.std.specs.Prelude.{◌≡◌};
+ghost use Rattle.std.specs.Prelude.{◌≡◌, OnOk};
 ghost use Rattle.room_types.specs.Ranks.{subject_of};
 ghost use Rattle.dispatch_room_board.specs.BoardCells.{text_of};
 ghost use Rattle.dispatch_room_board.specs.Members.{IsVehicle};
-ghost use Rattle.dispatch_room_board.specs.BoardRows.{IsEntry};
-ghost use Rattle.dispatch_room_board.specs.BoardTables.{entry_table, matter_of, subject_text};
-ghost use Rattle.dispatch_room_board.specs.BoardTables.{waited_of};
+ghost use Rattle.dispatch_room_board.specs.BoardRows.{IsEntry, IsQueueLine};
+ghost use Rattle.dispatch_room_board.specs.BoardTables.{entry_texts, exception_text, matter_of};
+ghost use Rattle.dispatch_room_board.specs.BoardTables.{queue_table, subject_text, waited_of};
+ghost use Rattle.dispatch_room_board.specs.CellLayout.{row_of};
+ghost use Rattle.dispatch_room_board.specs.Pages.{Adds, line_of, note_lines};
+ghost use Rattle.dispatch_room_board.specs.declared.board_pages.Paint.TheVariants.{Plain};
 
 use crate::board_cells::{BoardCell, since};
 use crate::board_pages::{Page, Paint};
 use crate::cell_layout::Column;
 use crate::cell_layout::Column::{Left, Right};
 use crate::json_members::{FromJson, member};
+use crate::report_lines::{ReportLine, report_text};
 use crate::table_layouts::{TableLayout, Tabled};
 use room_types::answers::QueueEntry;
 use room_types::callsign::Callsign;
@@ -63,11 +67,32 @@ impl FromJson for About {
     }
 }
 
+/// A line of the queue: an entry, and the report that it is for, where that is told.
+#[derive(Clone, Copy)]
+pub struct QueueLine {
+    pub entry: QueueEntry,
+    pub report: Option<ReportLine>,
+}
+
+impl FromJson for QueueLine {
+    ghost says = { IsQueueLine };
+
+    fn from_json(value: &Value) -> Option<QueueLine> {
+        match QueueEntry::from_json(value) {
+            Some(entry) => Some(QueueLine {
+                entry,
+                report: None,
+            }),
+            None => None,
+        }
+    }
+}
+
 // The columns of the queue.
 const QUEUE: [Column; 4] = [Left(24), Left(19), Left(8), Right(10)];
 
-impl Tabled for QueueEntry {
-    ghost table = { entry_table };
+impl Tabled for QueueLine {
+    ghost table = { queue_table };
 
     fn layout() -> TableLayout {
         TableLayout {
@@ -79,17 +104,49 @@ impl Tabled for QueueEntry {
     }
 
     fn put(&self, alloc: Global, now: Moment, page: &mut Page) -> Result<(), AllocError> {
-        let vehicle = match &self.callsign {
-            Some(callsign) => callsign.as_str(),
-            None => "",
-        };
-        let cells = [
-            BoardCell::Text(matter(self.rank)),
-            subject(self.rank, self.number),
-            BoardCell::Text(vehicle),
-            waited(self.rank, self.since, now),
-        ];
-        page.put_row(alloc, Paint::Plain, &QUEUE, &cells)
+        put_row(alloc, page, &self.entry, now)?;
+        put_exception(alloc, page, &self.report)
+    }
+}
+
+// Adds the row of an entry, without its report.
+fn put_row(
+    alloc: Global,
+    page: &mut Page,
+    entry: &QueueEntry,
+    now: Moment,
+) -> Result<(), AllocError>
+    ensures { OnOk result (Adds page.old page.new (line_of page.old.colour Plain
+        (row_of queue_table.columns (entry_texts now entry.now)))) }
+{
+    let vehicle = match &entry.callsign {
+        Some(callsign) => callsign.as_str(),
+        None => "",
+    };
+    let cells = [
+        BoardCell::Text(matter(entry.rank)),
+        subject(entry.rank, entry.number),
+        BoardCell::Text(vehicle),
+        waited(entry.rank, entry.since, now),
+    ];
+    page.put_row(alloc, Paint::Plain, &QUEUE, &cells)
+}
+
+// Adds the words of the report that an entry is for, where it is told.
+fn put_exception(
+    alloc: Global,
+    page: &mut Page,
+    report: &Option<ReportLine>,
+) -> Result<(), AllocError>
+    ensures { OnOk result (Adds page.old page.new
+        (note_lines page.old.colour (exception_text report.now))) }
+{
+    match report {
+        Some(report) => {
+            let text = report_text(alloc, report)?;
+            page.put_note(text.as_str())
+        }
+        None => page.put_note(""),
     }
 }
 

@@ -4,13 +4,15 @@ ghost use Rattle.httpdate.specs.Date.{unix_secs};
 ghost use Rattle.dispatch_room_board.specs.Boards.{IsHeardAt};
 ghost use Rattle.dispatch_room_board.specs.Members.{IsRead};
 
-use crate::answer_contents::{Found, FromAnswer, found_in};
+use crate::answer_contents::{Found, FromAnswer, next_in};
 use crate::board_errors::{BoardError, error_text};
 use crate::board_pages::{Page, Paint};
 use crate::boards::{Board, Reached};
 use crate::heard_answers::first_message;
 use crate::history_lines::{History, put_history};
+use crate::queue_columns::QueueLine;
 use crate::table_layouts::{Tabled, put_rows};
+use crate::told_reports::{reports_told, vehicles_in, with_reports};
 use httpdate::HttpDate;
 use room_types::answers::{Listed, Proposal};
 use room_types::numbers::Moment;
@@ -26,9 +28,13 @@ pub struct Renderer<'a> {
 }
 
 impl<'a> Renderer<'a> {
-    ghost use Rattle.std.specs.Prelude.{◌≡◌, [], IfOk, MatchResult, OnOk};
-    ghost use Rattle.dispatch_room_board.specs.Boards.{Befalls, IsHead, IsNext, IsPart, IsShown};
+    ghost use Rattle.std.specs.Prelude.{◌≡◌, [], IfOk, List, OnOk, map};
+    ghost use Rattle.dispatch_room_board.specs.AnswerRows.{IsFound};
+    ghost use Rattle.dispatch_room_board.specs.Boards.{IsHead, IsPart, IsQueue, IsShown};
     ghost use Rattle.dispatch_room_board.specs.Boards.{ShowsNamed, reached_with, board_error_lines};
+    ghost use Rattle.dispatch_room_board.specs.BoardTables.{queue_table, table_lines};
+    ghost use Rattle.dispatch_room_board.specs.ToldReports.{AreTold, vehicles_in, with_report};
+    ghost use Rattle.dispatch_room_board.specs.declared.told_reports.ToldReport.{ToldReport};
     ghost use Rattle.dispatch_room_board.specs.Histories.{IsHistory, history_lines, history_title};
     ghost use Rattle.dispatch_room_board.specs.Pages.{Adds};
     ghost use Rattle.dispatch_room_board.specs.declared.boards.Reached.TheVariants.{All};
@@ -69,6 +75,31 @@ impl<'a> Renderer<'a> {
         let date = date_of(moment);
         let line = format!(in self.alloc; "Room at {date}")?;
         self.page.put_line(Paint::Plain, line.as_str())
+    }
+
+    /// Adds the queue by the next answer, or why it is not there: each exception with its report,
+    /// where that is told.
+    pub fn put_queue(&mut self, told: &[u8]) -> Result<(), AllocError>
+        ensures { OnOk result (IsQueue told.now self.old self.new) }
+    {
+        match self.next::<Listed<QueueLine>>()? {
+            Ok((lines, now)) => self.put_lines(lines.as_slice(), told, now),
+            Err(board_error) => self.put_board_error("Queue", board_error),
+        }
+    }
+
+    // Adds the lines of the queue with what is told of reports.
+    fn put_lines(&mut self, lines: &[QueueLine], told: &[u8], now: Moment) -> Result<(), AllocError>
+        ensures shown { OnOk result ((reports : List ToldReport)
+            × AreTold (vehicles_in lines.now) told.now reports
+            × Adds self.old.page self.new.page (table_lines queue_table self.old.page.colour now
+            (map (with_report reports) lines.now))) }
+        ensures rest { (self.new.rest ≡ self.old.rest) × (self.new.reached ≡ self.old.reached) }
+    {
+        let vehicles = vehicles_in(self.alloc, lines)?;
+        let reports = reports_told(self.alloc, told, vehicles.as_slice())?;
+        let shown = with_reports(self.alloc, lines, reports.as_slice())?;
+        put_rows(self.alloc, &mut self.page, &shown, now)
     }
 
     /// Adds what came of an incident and whom to send to it, where one was named.
@@ -113,21 +144,14 @@ impl<'a> Renderer<'a> {
         self.page.put_spaced(Paint::Alarm, line.as_str())
     }
 
-    // What the next answer gives. Where no answer can be read, nothing is taken, so none can be
-    // read after it.
+    // What the next answer gives.
     fn next<G: FromAnswer>(&mut self) -> Result<Found<G>, AllocError>
-        ensures found { IfOk result (λ found. MatchResult found
-            (IsNext G.gives self.old.rest.now self.new.rest.now)
-            (Befalls G.gives self.old.rest.now self.new.rest.now)) }
+        ensures found { IfOk result (IsFound G.gives self.old.rest.now self.new.rest.now) }
         ensures page { (self.new.page ≡ self.old.page) × (self.new.reached ≡ self.old.reached) }
     {
-        match first_message(self.rest) {
-            Ok((message, rest)) => {
-                self.rest = rest;
-                found_in(self.alloc, &message)
-            }
-            Err(board_error) => Ok(Err(board_error)),
-        }
+        let (found, rest) = next_in(self.alloc, self.rest)?;
+        self.rest = rest;
+        Ok(found)
     }
 }
 

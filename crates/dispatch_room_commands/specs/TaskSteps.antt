@@ -6,11 +6,12 @@ use Rattle.std.specs.Prelude.{Vec, [], codes, false, is_some, map, true, ⊤, �
 use Rattle.clap.specs.Words.{kind_of}
 use Rattle.clap.specs.declared.error.Error.{Error}
 use Rattle.sqlite_disk.specs.declared.Disk.{Ghosts as Disk}
-use Rattle.room_types.specs.Texts.{Token}
+use Rattle.room_types.specs.Texts.{Callsign, Token}
 use Rattle.dispatch_room_archive.specs.declared.division_days.DivisionDay.{DivisionDay}
 use Rattle.dispatch_room_archive.specs.declared.renewal.Successor.{Successor}
 use Rattle.dispatch_room_board.specs.Boards.{IsBoard}
-use Rattle.dispatch_room_board.specs.Requests.{requests}
+use Rattle.dispatch_room_board.specs.Requests.{report_requests, requests}
+use Rattle.dispatch_room_board.specs.ToldReports.{AreVehiclesHeard}
 use Rattle.dispatch_room_board.specs.declared.boards.Board.{Board as HeardBoard}
 use Rattle.dispatch_room_board.specs.declared.exchange.TheConstants.{MOST_HEARD}
 use Rattle.dispatch_room_changes.specs.ChangeSteps.{IsImport, IsInit, IsKeptImport, IsReplan}
@@ -81,16 +82,25 @@ PrintsFound has_ended (Some tally) = Prints (tally_text tally has_ended)
 abbrev pub IsVerifyOf : Option (List ℕ) → Bool → Bool → Step Output Done
 IsVerifyOf list read_failed has_ended = Then (Verifies list read_failed) (PrintsFound has_ended)
 
--- the board of what was heard is made, unless memory fails
-abbrev pub MakesBoard : List ℕ → Bool → Bool → Step Output HeardBoard
-MakesBoard heard proposes colour = Silent (λ made. MatchResult made (IsBoard heard proposes colour)
+-- the board of what was said, and of what was told of reports, is made, unless memory fails
+abbrev pub MakesBoard : List ℕ → List ℕ → Bool → Bool → Step Output HeardBoard
+MakesBoard said told proposes colour = Silent (λ made. MatchResult made
+    (IsBoard said told proposes colour)
     (λ fault. fault ≡ failure.Memory))
 
 -- it is printed, and the command ends as what was reached says
-abbrev pub PrintsBoard : List ℕ → Bool → Bool → Step Output Done
-PrintsBoard heard proposes colour = Then (MakesBoard heard proposes colour)
+abbrev pub PrintsBoard : List ℕ → List ℕ → Bool → Bool → Step Output Done
+PrintsBoard said told proposes colour = Then (MakesBoard said told proposes colour)
     (λ board. Then (Prints board.page.text.items)
     (λ _. Silent (λ came. came ≡ end_of_board board.reached)))
+
+-- the two calls of a board end within the seconds that it may take in all: three quarters are for
+-- the board, the rest for reports
+abbrev pub board_nanos : Look → ℕ
+board_nanos look = look.patience * 750_000_000
+
+abbrev pub reports_nanos : Look → ℕ
+reports_nanos look = look.patience * 250_000_000
 
 module _ {F : Type 0} where
   -- a copy is put in the place of a file, by all these calls, one after another, or those before
@@ -140,26 +150,49 @@ module _ {F : Type 0} where
   Colours Always = Gives true
   Colours Never = Gives false
 
-  -- a room is called, for so many seconds
-  abbrev pub Calls : Look → Command F (Unit {0})
-  Calls look = Takes (λ _. called look.address.now (look.patience * 1_000_000_000))
+  -- a room is called, for so many nanoseconds
+  abbrev pub Calls : Look → ℕ → Command F (Unit {0})
+  Calls look nanos = Takes (λ _. called look.address.now nanos)
+
+  -- it goes on, unless memory fails
+  abbrev pub MayLackMemory : Command F (Unit {0})
+  MayLackMemory = Silent (λ came. MatchResult came (λ _. ⊤) (λ fault. fault ≡ failure.Memory))
+
+  -- the vehicles with a report out of turn are found in what was said, unless memory fails
+  abbrev pub FindsVehicles : List ℕ → Command F (List Callsign)
+  FindsVehicles said = Silent (λ came. MatchResult came (AreVehiclesHeard said)
+      (λ fault. fault ≡ failure.Memory))
 
   -- what is heard where a room is asked: at an address, on a connection that lasts so many
   -- nanoseconds, where this is asked, and so many bytes are heard at most
   module _ (heard : List ℕ → ℕ → List ℕ → ℕ → List ℕ → Type 0) where
-    -- What a desk hears of the room where it asks for its board, within its seconds, is shown; or
-    -- memory fails.
-    abbrev pub ShowsBoard : Look → Token → Bool → Command F Done
-    ShowsBoard look token colour before after came = ((came ≡ Err failure.Memory)
-        × (after.printed ≡ before.printed) × (after.done ≡ before.done))
-        ⊎ ((said : List ℕ) × heard look.address.now (look.patience * 1_000_000_000)
-        (requests token look.incident) MOST_HEARD said
-        × Shows (PrintsBoard said (is_some look.incident) colour) before after came)
+    -- a room is called and asked this, and what it answers in this time is heard, unless memory
+    -- fails
+    abbrev pub HearsAnswers : Look → ℕ → List ℕ → Command F (Vec ℕ Global)
+    HearsAnswers look nanos text = Then (Calls look nanos) (λ _. Silent (λ came. MatchResult came
+        (λ said. heard look.address.now nanos text MOST_HEARD said.items)
+        (λ fault. fault ≡ failure.Memory)))
+
+    -- the same, unless there is no memory for what is asked
+    abbrev pub Hears : Look → ℕ → List ℕ → Command F (Vec ℕ Global)
+    Hears look nanos text = Then MayLackMemory (λ _. HearsAnswers look nanos text)
+
+    -- the reports of these vehicles are asked for; of none nothing is
+    abbrev pub HearsOf : Look → Token → List Callsign → Command F (Vec ℕ Global)
+    HearsOf look token [] = Silent (λ came. MatchResult came (λ told. told.items ≡ []) (λ fault. ⊥))
+    HearsOf look token (c ∷ cs) =
+        Hears look (reports_nanos look) (report_requests token (c ∷ cs))
+
+    -- those of the vehicles with a report out of turn in the queue that was said
+    abbrev pub HearsReports : Look → Token → List ℕ → Command F (Vec ℕ Global)
+    HearsReports look token said = Then (FindsVehicles said) (HearsOf look token)
 
     -- a room is asked with a token, and what is heard is shown, in colours as it was asked
     abbrev pub AsksRoom : Look → Token → Command F Done
     AsksRoom look token = Then (Colours look.color)
-        (λ colour. Then (Calls look) (λ _. ShowsBoard look token colour))
+        (λ colour. Then (Hears look (board_nanos look) (requests token look.incident))
+        (λ said. Then (HearsReports look token said.items)
+        (λ told. Shows (PrintsBoard said.items told.items (is_some look.incident) colour))))
 
     -- The board of a desk is shown. Where its token may not go to the address no file is read, and
     -- where it has none no room is called.

@@ -1,6 +1,6 @@
 -- A question changes nothing: so what is kept without them leads to the same room.
-use Rattle.std.proofs.Common.{◌≡◌, ◌∙◌, refl, sym, ap, subst, ℕ, List, [], ◌∷◌, Bool, true, false}
-use Rattle.std.proofs.Common.{codes, if◌then◌else◌, Option, Some, None, Result, Ok, Err}
+use Rattle.std.proofs.Common.{◌≡◌, ◌∙◌, refl, sym, ap, subst, ℕ, ℤ, List, [], ◌∷◌, Bool, true}
+use Rattle.std.proofs.Common.{false, codes, if◌then◌else◌, Option, Some, None, Result, Ok, Err}
 use Rattle.std.specs.Prelude.{IfSome, MatchBool}
 use Rattle.std.proofs.lemmas.Bool.{not-false}
 use Rattle.std.proofs.lemmas.Slice.Eq.{bytes_eq-Decides}
@@ -17,8 +17,11 @@ use Rattle.room_model.specs.Rooms.{machine}
 use Rattle.room_model.specs.Step.{is_question}
 use Rattle.room_model.proofs.Questions.{question_stays}
 use Rattle.room_http_messages.specs.Messages.{WholeMessage, terminal_of}
-use Rattle.room_http_requests.specs.RequestTable.{allow_of, is_of, path_of, request_by, role_of}
+use Rattle.room_http_requests.specs.RequestTable.{allow_of, between, is_of, path_of, request_by}
+use Rattle.room_http_requests.specs.RequestTable.{role_of}
 use Rattle.room_http_requests.specs.Router.{by_method, is_allowed, known_by, routed}
+use Rattle.room_http_requests.specs.declared.request_table.DayAsk.{DayAsk}
+use Rattle.room_http_requests.specs.declared.request_table.DayAsk.TheVariants as of_day
 use Rattle.room_http_requests.specs.declared.request_table.Request.{Request}
 use Rattle.room_http_requests.specs.declared.request_table.Request.TheVariants as request
 use Rattle.room_http_requests.specs.declared.request_table.Target.{Target}
@@ -36,12 +39,20 @@ use Rattle.dispatch_room_serving.specs.KeptChanges.{is_change}
 -- ---- by these methods only questions are asked
 abbrev pub Asks : Request → Type 0
 Asks (request.Ask a) = is_question a ≡ true
-Asks (request.Times day) = Unit {0}
+Asks (request.OfDay day x) = Unit {0}
 
 asks_at : (t : Target) (body : List ℕ) → allow_of (path_of t) ≡ GetHead → IfSome (request_by t body) Asks
 unfolding request_by
 asks_at (target.Times day) body get = tt
+asks_at (target.ClassTimes day) body get = tt
+asks_at (target.Closed day search) body get = tt
 asks_at t body get = cc
+
+-- all that is asked of a day is a question
+day_question : (x : DayAsk) (from to : ℤ) → is_question (between x from to) ≡ true
+day_question of_day.Times from to = refl
+day_question of_day.ClassTimes from to = refl
+day_question (of_day.Closed search) from to = refl
 
 -- a path that takes such a method is one that is asked
 is_asked : (allow : Allow) (method : List ℕ) → is_allowed allow method ≡ true
@@ -58,7 +69,7 @@ module _ (setting : HttpSettings) (terminals : List Terminal) where
       let quiet : IfSome (Some (request.Ask a)) Asks = subst (λ (r : Option Request). IfSome r Asks) is
       (asks_at t body get) in
       ap is_question of ∙ quiet
-  asked t body (request.Times day) asks get is of = ap is_question of.2
+  asked t body (request.OfDay day x) asks get is of = ap is_question of.2 ∙ day_question x of.0.0 of.0.1
 
   module _ (m : WholeMessage) (at : ℕ) (event : Event) where
     by_body : (t : Target) (who : Who) (given : Option Request) → allow_of (path_of t) ≡ GetHead

@@ -13,6 +13,8 @@ use room_alloc::lending::{LoanTerms, accept, decline, give_back, lend, recall, w
 use room_alloc::orders::{mobilise, stand_down};
 use room_alloc::posts::{post, set_point};
 use room_alloc::proposals::propose;
+use room_incident::class_times::day_class_times;
+use room_incident::closed_incidents::closed;
 use room_incident::incident_closing::close;
 use room_incident::incident_history::incident;
 use room_incident::incident_list::{day_times, incidents};
@@ -29,10 +31,10 @@ use room_types::refusal_statuses::Refusal;
 use room_types::slices::Slice;
 use std::alloc::Global;
 
-/// What a division's desk asks in one step. In every well-formed room of this plan the decision is the room's,
-/// where the slice's rows are those that the request reads, and where they are the division's whole
-/// share. A request that is for no desk is refused as `WrongRole`, and so are moves, of which
-/// `decide_move` decides each. Only a list and a merge may lack memory.
+/// What a division's desk asks in one step. In every well-formed room of this plan the decision is
+/// the room's, where the slice's rows are those that the request reads, and where they are the
+/// division's whole share. A request that is for no desk is refused as `WrongRole`, and so are
+/// moves, of which `decide_move` decides each. Only a list and a merge may lack memory.
 pub fn decide_desk(
     alloc: Global,
     plan: &Plan,
@@ -95,6 +97,8 @@ fn decide(
         Ask::Loans => loans(alloc, slice),
         Ask::Offers => offers(alloc, slice),
         Ask::Times(from, to) => day_times(alloc, slice, *from, *to),
+        Ask::ClassTimes(from, to) => Ok(day_class_times(slice, *from, *to)),
+        Ask::Closed(from, to, search) => closed(alloc, slice, *from, *to, search),
         Ask::Call(_) | Ask::Moves(_) | Ask::Order | Ask::Job | Ask::Report(_) | Ask::Last => {
             Err(Refusal::WrongRole)
         }

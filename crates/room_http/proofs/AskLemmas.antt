@@ -1,9 +1,8 @@
 -- What is asked by a terminal of the right role, which the room knows, is addressed.
 use Rattle.std.proofs.Common.{◌≡◌, ◌∙◌, refl, ap, sym, subst, ℕ, List, Bool, true, Option, Some}
-use Rattle.std.proofs.Common.{None, Result, Ok, Err}
-use Rattle.std.specs.Prelude.{option_map, option_and_then, MatchBool}
+use Rattle.std.proofs.Common.{Result, Ok, Err}
+use Rattle.std.specs.Prelude.{MatchBool}
 use Rattle.room_types.specs.declared.asks.Ask.{Ask}
-use Rattle.room_types.specs.declared.asks.Ask.TheVariants as ask
 use Rattle.room_types.specs.declared.asks.Event.{Event}
 use Rattle.room_types.specs.declared.asks.Who.{Who}
 use Rattle.room_types.specs.declared.fleet.Terminal.{Terminal}
@@ -12,38 +11,14 @@ use Rattle.room_types.specs.declared.refusal_statuses.Refusal.TheVariants.{Wrong
 use Rattle.room_model.specs.Room.{Room}
 use Rattle.room_model.specs.Step.{is_for}
 use Rattle.room_http_messages.specs.Messages.{WholeMessage, terminal_of}
-use Rattle.room_http_time.specs.Dates.{Date}
 use Rattle.room_http_requests.specs.RequestTable.{is_known, is_of, request_by, role_of}
 use Rattle.room_http_requests.specs.Router.{routed}
 use Rattle.room_http_requests.specs.declared.request_table.Target.{Target}
-use Rattle.room_http_requests.specs.declared.request_table.Target.TheVariants as target
-use Rattle.room_http_requests.specs.Bodies.{ask_with_body}
-use Rattle.room_http_requests.specs.BodyFields.{fields_of}
 use Rattle.room_http_requests.specs.declared.request_table.Request.{Request}
 use Rattle.room_http_requests.specs.declared.request_table.Request.TheVariants as request
-use Rattle.room_http_requests.specs.declared.request_table.Role.TheVariants as role
-use Rattle.room_http_requests.proofs.RoleLaws.{asked_is, addressed}
+use Rattle.room_http_requests.proofs.RoleLaws.{addressed, asked_is, day_addressed}
 use Rattle.room_http.specs.declared.settings.HttpSettings.{HttpSettings}
 use Rattle.room_http.specs.MessageEvents.{AsksAs, AsksAt, AsksBy, AsksFor, IsAskFor, named}
-
--- what is posted is no day
-no_times : (posts : Option Ask) (day : Date)
-    → ¬ (option_map request.Ask posts ≡ Some (request.Times day))
-no_times None day is = cc
-no_times (Some a) day is = cc
-
--- times are a desk's
-times_are_desks : (t : Target) (body : List ℕ) (day : Date)
-    → request_by t body ≡ Some (request.Times day) → role_of t ≡ role.Desk
-unfolding request_by
-times_are_desks target.Call body day is =
-    absurd (no_times (option_and_then (ask_with_body target.Call) (fields_of body)) day is)
-times_are_desks target.Order body day is = absurd (cc)
-times_are_desks target.Job body day is = absurd (cc)
-times_are_desks target.Last body day is = absurd (cc)
-times_are_desks target.Report body day is =
-    absurd (no_times (option_and_then (ask_with_body target.Report) (fields_of body)) day is)
-times_are_desks t body day is = refl
 
 pub request_addressed : (setting : HttpSettings) (t : Target) (body : List ℕ) (given : Request) (asks : Ask)
     (who : Who) (room : Room) → request_by t body ≡ Some given
@@ -52,10 +27,9 @@ pub request_addressed : (setting : HttpSettings) (t : Target) (body : List ℕ) 
 request_addressed setting t body (request.Ask a) asks who room body_asks is may known =
     ap (λ (x : Ask). is_for who x room) is ∙ addressed (role_of t) a who room (asked_is t body a body_asks).0 may
     ∙ known
-request_addressed setting t body (request.Times day) asks who room body_asks is may known =
+request_addressed setting t body (request.OfDay day asked) asks who room body_asks is may known =
     ap (λ (x : Ask). is_for who x room) is.2
-    ∙ addressed role.Desk (ask.Times is.0.0 is.0.1) who room refl (rw (times_are_desks t body day body_asks) at may)
-    ∙ known
+    ∙ day_addressed t body day asked is.0.0 is.0.1 who room body_asks may ∙ known
 
 -- what a message asks for, found step by step
 pub asks_for : (setting : HttpSettings) (terminals : List Terminal) (m : WholeMessage) (at : ℕ)

@@ -34,7 +34,7 @@ module _ (text : List ℕ) (a b : HttpSettings) (in_a : IsSetting text b.history
     (in_b : IsPosixZone text (zone_of b.zone)) where
   ask_in : (given : Request) (asks : Ask) → IsAskFor a given asks → IsAskFor b given asks
   ask_in (request.Ask q) asks is = is
-  ask_in (request.Times day) asks is = (
+  ask_in (request.OfDay day asked) asks is = (
     is.0,
     one_zone_law text a.zone b.zone in_a.zone in_b (days_from_civil (pos day.year) day.month day.day) is.0 is.1,
     is.2,

@@ -4,7 +4,6 @@ use Rattle.std.proofs.Common.{Bool, true, false, Option, Some, None, Result, Ok,
 use Rattle.std.specs.Prelude.{MatchBool, pos}
 use Rattle.jiff_core.specs.Calendar.{days_from_civil}
 use Rattle.room_types.specs.declared.asks.Ask.{Ask}
-use Rattle.room_types.specs.declared.asks.Ask.TheVariants as ask
 use Rattle.room_types.specs.declared.asks.Event.{Event}
 use Rattle.room_types.specs.declared.asks.Who.{Who}
 use Rattle.room_types.specs.declared.fleet.Terminal.{Terminal}
@@ -14,7 +13,7 @@ use Rattle.room_model.specs.Room.{Room}
 use Rattle.room_http_messages.specs.declared.read_faults.Unread.TheVariants.{Refused}
 use Rattle.room_http_messages.specs.Messages.{WholeMessage, terminal_of}
 use Rattle.room_http_messages.proofs.LawLemmas.{one_message_law, no_end_law}
-use Rattle.room_http_requests.specs.RequestTable.{is_of, request_by, role_of}
+use Rattle.room_http_requests.specs.RequestTable.{between, is_of, request_by, role_of}
 use Rattle.room_http_requests.specs.Router.{routed}
 use Rattle.room_http_requests.specs.declared.request_table.Target.{Target}
 use Rattle.room_http_requests.specs.declared.request_table.Request.{Request}
@@ -54,9 +53,9 @@ one_stream_law stream (refused r head_only ∷ few) (refused s without ∷ many)
 one_ask : (setting : HttpSettings) (given : Request) (a b : Ask) → IsAskFor setting given a
     → IsAskFor setting given b → a ≡ b
 one_ask setting (request.Ask x) a b is also = is ∙ sym also
-one_ask setting (request.Times day) a b is also =
+one_ask setting (request.OfDay day asked) a b is also =
     is.2
-    ∙ ap (λ (span : ℤ × ℤ). ask.Times span.0 span.1)
+    ∙ ap (λ (span : ℤ × ℤ). between asked span.0 span.1)
     (one_span_law (zone_of setting.zone) (days_from_civil (pos day.year) day.month day.day) is.0 also.0 is.1 also.1)
     ∙ sym also.2
 

@@ -21,7 +21,7 @@ use Rattle.room_http_requests.specs.Router.{routed}
 use Rattle.room_http_requests.specs.declared.request_table.Request.{Request}
 use Rattle.room_http_requests.specs.declared.request_table.Request.TheVariants as request
 use Rattle.room_http_requests.specs.declared.request_table.Target.{Target}
-use Rattle.room_http_requests.proofs.RoleLaws.{asked_is}
+use Rattle.room_http_requests.proofs.RoleLaws.{asked_is, desk_asks}
 use Rattle.room_http.specs.declared.settings.HttpSettings.{HttpSettings}
 use Rattle.room_model.specs.Rooms.{machine, who_at}
 use Rattle.room_http.specs.Arrivals.{message, refused}
@@ -84,7 +84,8 @@ found_asked_by setting terminals (refused r head_only, at) found finds = rw find
 request_numbered : (setting : HttpSettings) (t : Target) (body : List ℕ) (given : Request) (asks : Ask)
     → request_by t body ≡ Some given → IsAskFor setting given asks → IsNumbered asks
 request_numbered setting t body (request.Ask a) asks body_asks is = rw is (asked_is t body a body_asks).1
-request_numbered setting t body (request.Times day) asks body_asks is = rw is.2 tt
+request_numbered setting t body (request.OfDay day asked) asks body_asks is =
+    rw is.2 (desk_asks asked is.0.0 is.0.1).1
 
 -- an event, if one was found, is of those that the room knows
 abbrev IsKnownEvent : Room → Result Event Refusal → Type 0

@@ -10,6 +10,9 @@ use Rattle.room_types.specs.Ranks.{rank_number}
 use Rattle.room_types.specs.RefusalStatuses.{refusal_name, refusal_number}
 use Rattle.room_types.specs.declared.answers.Answer.{Answer}
 use Rattle.room_types.specs.declared.answers.Answer.TheVariants as answer
+use Rattle.room_types.specs.declared.answers.ClassLine.{ClassLine}
+use Rattle.room_types.specs.declared.answers.ClassTimes.{ClassTimes}
+use Rattle.room_types.specs.declared.answers.ClosedPage.{ClosedPage}
 use Rattle.room_types.specs.declared.answers.QueueEntry.{QueueEntry}
 use Rattle.room_types.specs.declared.answers.History.{History}
 use Rattle.room_types.specs.declared.answers.IncidentLine.{IncidentLine}
@@ -25,6 +28,7 @@ use Rattle.room_types.specs.declared.needs.Counts.{Counts}
 use Rattle.room_types.specs.declared.refusal_statuses.Refusal.{Refusal}
 use Rattle.room_types.specs.declared.tables.Assignment.{Assignment}
 use Rattle.room_types.specs.declared.tables.Call.{Call}
+use Rattle.room_types.specs.declared.tables.Incident.{Incident}
 use Rattle.room_types.specs.declared.tables.Loan.{Loan}
 use Rattle.room_types.specs.declared.tables.Offer.{Offer}
 use Rattle.room_types.specs.declared.tables.Report.{Report}
@@ -147,6 +151,45 @@ times_json t =
     ∷ (codes "within", whole t.within)
     ∷ [])
 
+abbrev pub class_line_json : ClassLine → Data
+class_line_json l =
+    object_of (
+    (codes "activated", whole l.activated)
+    ∷ (codes "class", whole l.class)
+    ∷ (codes "opened", whole l.opened)
+    ∷ (codes "within", whole l.within)
+    ∷ [])
+
+-- from and to are those of the day's times
+abbrev pub class_times_json : ClassTimes → Data
+class_times_json t =
+    object_of (
+    (codes "classes", list_of class_line_json t.lines)
+    ∷ (codes "from", number (of_integer t.from))
+    ∷ (codes "to", number (of_integer t.to))
+    ∷ [])
+
+-- an incident that is over; of one that was merged the incident that it went into
+abbrev pub closed_json : Incident → Data
+closed_json i =
+    object_of (
+    (codes "class", whole i.class)
+    ∷ (codes "first_order", or_null whole i.first_order)
+    ∷ (codes "into", or_null whole (merged_into i.state))
+    ∷ (codes "needs", counts_json i.needs)
+    ∷ (codes "number", whole i.number)
+    ∷ (codes "opened", whole i.opened)
+    ∷ (codes "place", place_json i.place)
+    ∷ [])
+
+-- incidents that are over, and the number of the one that follows them, if there is one
+abbrev pub closed_page_json : ClosedPage → Data
+closed_page_json p =
+    object_of (
+    (codes "incidents", list_of closed_json p.incidents)
+    ∷ (codes "next", or_null whole p.next)
+    ∷ [])
+
 abbrev pub assignment_json : Assignment → Data
 assignment_json a =
     object_of (
@@ -253,6 +296,8 @@ answer_json (answer.Points lines) = object_of ((codes "points", list_of point_js
 answer_json (answer.Loans loans) = object_of ((codes "loans", list_of loan_json loans) ∷ [])
 answer_json (answer.Offers offers) = object_of ((codes "offers", list_of offer_json offers) ∷ [])
 answer_json (answer.Times times) = times_json times
+answer_json (answer.ClassTimes times) = class_times_json times
+answer_json (answer.Closed page) = closed_page_json page
 answer_json (answer.Order assignment post status) =
     object_of ((codes "order", or_null assignment_json assignment)
     ∷ (codes "post", or_null whole post) ∷ (codes "status", whole (status_number status)) ∷ [])

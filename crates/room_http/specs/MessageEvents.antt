@@ -4,7 +4,6 @@ use Rattle.std.specs.Prelude.{if◌then◌else◌, MatchBool, ℤ, pos}
 use Rattle.jiff_core.specs.Calendar.{days_from_civil}
 use Rattle.room_types.specs.Texts.{is_token, Token}
 use Rattle.room_types.specs.declared.asks.Ask.{Ask}
-use Rattle.room_types.specs.declared.asks.Ask.TheVariants as ask
 use Rattle.room_types.specs.declared.asks.Event.{Event}
 use Rattle.room_types.specs.declared.asks.Who.{Who}
 use Rattle.room_types.specs.declared.fleet.Terminal.{Terminal}
@@ -12,7 +11,7 @@ use Rattle.room_types.specs.declared.refusal_statuses.Refusal.{Refusal}
 use Rattle.room_types.specs.declared.refusal_statuses.Refusal.TheVariants.{BadBody, NoTerminal}
 use Rattle.room_types.specs.declared.refusal_statuses.Refusal.TheVariants.{WrongRole}
 use Rattle.room_http_messages.specs.Messages.{WholeMessage, terminal_of}
-use Rattle.room_http_requests.specs.RequestTable.{is_of, request_by, role_of}
+use Rattle.room_http_requests.specs.RequestTable.{between, is_of, request_by, role_of}
 use Rattle.room_http_requests.specs.Router.{routed}
 use Rattle.room_http_requests.specs.declared.request_table.Target.{Target}
 use Rattle.room_http_requests.specs.declared.request_table.Request.{Request}
@@ -29,13 +28,13 @@ token_of field = option_and_then (λ text. if is_token text then Some text else 
 abbrev pub named : List Terminal → Option (List ℕ) → Option Who
 named terminals field = option_and_then (who_at terminals) (token_of field)
 
--- a request, as the room is asked: the times of a day are those of its seconds in the zone
+-- a request, as the room is asked: what is asked of a day is asked of its seconds in the zone
 abbrev pub IsAskFor : HttpSettings → Request → Ask → Type 0
 IsAskFor setting (request.Ask a) asks = asks ≡ a
-IsAskFor setting (request.Times day) asks =
+IsAskFor setting (request.OfDay day asked) asks =
     (span : ℤ × ℤ)
     × IsSpan (zone_of setting.zone) (days_from_civil (pos day.year) day.month day.day) span
-    × (asks ≡ ask.Times span.0 span.1)
+    × (asks ≡ between asked span.0 span.1)
 
 -- what a terminal asks for, if its body asks for anything
 abbrev pub AsksBy : HttpSettings → ℕ → Who → Option Request → Result Event Refusal → Type 0

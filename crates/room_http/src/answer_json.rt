@@ -2,21 +2,22 @@
 ghost use Rattle.std.specs.Prelude.{◌≡◌, IfOk};
 ghost use Rattle.room_http.specs.Objects.{Sends};
 ghost use Rattle.room_http.specs.AnswerJson.{answer_json, assignment_json, call_json};
-ghost use Rattle.room_http.specs.AnswerJson.{callsign_or_empty, content, entry_json, history_json};
-ghost use Rattle.room_http.specs.AnswerJson.{incident_json, job_json, json_of, loan_json};
-ghost use Rattle.room_http.specs.AnswerJson.{move_json, offer_json};
+ghost use Rattle.room_http.specs.AnswerJson.{callsign_or_empty, class_line_json, class_times_json};
+ghost use Rattle.room_http.specs.AnswerJson.{closed_json, closed_page_json, content, entry_json};
+ghost use Rattle.room_http.specs.AnswerJson.{history_json, incident_json, job_json, json_of};
+ghost use Rattle.room_http.specs.AnswerJson.{loan_json, move_json, offer_json};
 ghost use Rattle.room_http.specs.AnswerJson.{point_json, proposal_json, refusal_json, report_json};
 ghost use Rattle.room_http.specs.AnswerJson.{times_json, times_line_json, turn_json, vehicle_json};
 
 use crate::json_values::ToJson;
 use crate::objects::{End, Member, write_object};
 use room_types::answers::{
-    Answer, History, IncidentLine, Job, MoveLine, PointLine, Proposal, QueueEntry, Times,
-    TimesLine, VehicleLine,
+    Answer, ClassLine, ClassTimes, ClosedPage, History, IncidentLine, Job, MoveLine, PointLine,
+    Proposal, QueueEntry, Times, TimesLine, VehicleLine,
 };
 use room_types::callsign::Callsign;
 use room_types::refusal_statuses::Refusal;
-use room_types::tables::{Assignment, Call, Loan, Offer, Report, Turn};
+use room_types::tables::{Assignment, Call, Incident, Loan, Offer, Report, Turn};
 use serde::{Described, Serialize, Serializer};
 use std::alloc::{AllocError, Global};
 
@@ -58,6 +59,8 @@ impl ToJson for Answer {
             Answer::Loans(loans) => object!(out, { "loans": loans }),
             Answer::Offers(offers) => object!(out, { "offers": offers }),
             Answer::Times(times) => times.write_json(out),
+            Answer::ClassTimes(times) => times.write_json(out),
+            Answer::Closed(page) => page.write_json(out),
             Answer::Order(assignment, post, status) => {
                 object!(out, {
                     "order": assignment,
@@ -236,6 +239,58 @@ impl ToJson for Times {
             "incidents": &self.lines,
             "to": &self.to,
             "within": &self.within,
+        })
+    }
+}
+
+impl ToJson for ClassLine {
+    ghost json = { class_line_json };
+
+    fn write_json<S: Serializer>(&self, out: &mut S) -> Result<(), S::Error> {
+        object!(out, {
+            "activated": &self.activated,
+            "class": &self.class,
+            "opened": &self.opened,
+            "within": &self.within,
+        })
+    }
+}
+
+impl ToJson for ClassTimes {
+    ghost json = { class_times_json };
+
+    fn write_json<S: Serializer>(&self, out: &mut S) -> Result<(), S::Error> {
+        object!(out, {
+            "classes": &self.lines,
+            "from": &self.from,
+            "to": &self.to,
+        })
+    }
+}
+
+impl ToJson for Incident {
+    ghost json = { closed_json };
+
+    fn write_json<S: Serializer>(&self, out: &mut S) -> Result<(), S::Error> {
+        object!(out, {
+            "class": &self.class,
+            "first_order": &self.first_order,
+            "into": &self.state.merged_into(),
+            "needs": &self.needs,
+            "number": &self.number,
+            "opened": &self.opened,
+            "place": &self.place,
+        })
+    }
+}
+
+impl ToJson for ClosedPage {
+    ghost json = { closed_page_json };
+
+    fn write_json<S: Serializer>(&self, out: &mut S) -> Result<(), S::Error> {
+        object!(out, {
+            "incidents": &self.incidents,
+            "next": &self.next,
         })
     }
 }

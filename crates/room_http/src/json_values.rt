@@ -197,6 +197,14 @@ impl<L: ToJson + Copy> ToJson for Listed<L> {
     }
 }
 
+impl<T: ToJson, const N: usize> ToJson for [T; N] {
+    ghost json = { list_of T.json };
+
+    fn write_json<S: Serializer>(&self, out: &mut S) -> Result<(), S::Error> {
+        list(self, out)
+    }
+}
+
 /// A list, item by item.
 fn list<T: ToJson, S: Serializer>(items: &[T], out: &mut S) -> Result<(), S::Error>
     ensures { OnOk result

@@ -10,7 +10,7 @@ ghost use Rattle.room_http.specs.Findings.{FindsMessage, FindsTerminal, LooksOnl
 use crate::handlers::Handler;
 use crate::settings::HttpSettings;
 use room_http_messages::messages::Message;
-use room_http_requests::request_table::{Request, Role, ask_of};
+use room_http_requests::request_table::{DayAsk, Request, Role, ask_of};
 use room_http_time::days::Day;
 use room_model::rooms::Room;
 use room_types::asks::{Ask, Event, Who};
@@ -56,15 +56,15 @@ fn terminal<M: Room>(alloc: Global, room: &mut M, message: &Message) -> Result<W
     }
 }
 
-/// The times of a day in its zone.
-fn times(setting: &HttpSettings, day: Day) -> Ask
-    ensures { IsAskFor setting.now (request.Times day) result }
+/// What is asked of a day, which begins and ends in its zone.
+fn of_day(setting: &HttpSettings, day: Day, asked: DayAsk) -> Ask
+    ensures { IsAskFor setting.now (request.OfDay day asked) result }
 {
     let (from, to) = setting
         .zone
         .day(day.year(), day.month(), day.day())
         .unwrap();
-    Ask::Times(from, to)
+    asked.between(from, to)
 }
 
 /// A request, as the room is asked.
@@ -73,7 +73,7 @@ fn ask_for(setting: &HttpSettings, request: &Request) -> Ask
 {
     match request {
         Request::Ask(ask) => *ask,
-        Request::Times(day) => times(setting, *day),
+        Request::OfDay(day, asked) => of_day(setting, *day, *asked),
     }
 }
 

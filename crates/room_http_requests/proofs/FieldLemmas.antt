@@ -16,8 +16,8 @@ use Rattle.room_types.specs.Codes.{Decodes, button_name}
 use Rattle.room_types.specs.declared.codes.Button.{Button}
 use Rattle.room_types.specs.declared.codes.Button.TheVariants.{Position, Mobile, Scene, Leave}
 use Rattle.room_types.specs.declared.codes.Button.TheVariants.{Hospital, Return, Home}
-use Rattle.room_http_requests.specs.BodyFields.{button_of, buttons, few_at, fields_of}
-use Rattle.room_http_requests.specs.BodyFields.{items_count, members_count, needs_at, needs_of}
+use Rattle.room_http_requests.specs.BodyFields.{button_of, buttons, few_at, fields_of, items_count}
+use Rattle.room_http_requests.specs.BodyFields.{members_count, needs_at, needs_of}
 
 -- the members of a map are as many as its entries
 pub members_count-view : (entries : List (String Global × Value))

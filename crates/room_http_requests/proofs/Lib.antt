@@ -2,6 +2,7 @@
 
 pub mod TableLemmas
 pub mod RouteLemmas
+pub mod WalkLemmas
 pub mod BodyLemmas
 pub mod ParameterLemmas
 pub mod FieldLemmas

@@ -1,5 +1,5 @@
 -- That what a request asks for is of its target's role.
-use Rattle.std.proofs.Common.{◌≡◌, ◌&&◌, ◌≤◌, ℕ, List, Bool, true, false, refl, arith}
+use Rattle.std.proofs.Common.{◌≡◌, ◌&&◌, ◌≤◌, ℕ, ℤ, List, Bool, true, false, refl, arith}
 use Rattle.std.specs.Prelude.{if◌then◌else◌, Option, None, Some, IfSome, option_and_then}
 use Rattle.std.specs.Prelude.{option_map}
 use Rattle.std.proofs.lemmas.Bool.{and_parts}
@@ -16,12 +16,15 @@ use Rattle.room_http_requests.specs.declared.request_table.Target.TheVariants as
 use Rattle.room_model.specs.Events.{IsNumbered}
 use Rattle.room_model.specs.Room.{Room}
 use Rattle.room_model.specs.Step.{is_crews, is_desks, is_for, is_positions}
-use Rattle.room_http_requests.specs.RequestTable.{ask_without_body, is_known, is_of, or_posted}
-use Rattle.room_http_requests.specs.RequestTable.{request_by, role_of}
+use Rattle.room_http_time.specs.Dates.{Date}
+use Rattle.room_http_requests.specs.RequestTable.{ask_without_body, between, is_known, is_of}
+use Rattle.room_http_requests.specs.RequestTable.{or_posted, request_by, role_of}
 use Rattle.room_http_requests.specs.Bodies.{and_then, call_form, exactly, duty, lend, merge}
 use Rattle.room_http_requests.specs.Bodies.{ask_with_body, mobilise, moves, needs_change}
 use Rattle.room_http_requests.specs.Bodies.{point_form, press, standby}
 use Rattle.room_http_requests.specs.BodyFields.{fields_of, has_members, number_at, number_in}
+use Rattle.room_http_requests.specs.declared.request_table.DayAsk.{DayAsk}
+use Rattle.room_http_requests.specs.declared.request_table.DayAsk.TheVariants as of_day
 use Rattle.room_http_requests.specs.declared.request_table.Request.{Request}
 use Rattle.room_http_requests.specs.declared.request_table.Request.TheVariants as request
 use Rattle.room_http_requests.specs.declared.request_table.Role.{Role}
@@ -101,9 +104,10 @@ role_asks role.Sender a = is_crews a && is_positions a
 abbrev pub IsAskOf : Target → Ask → Type 0
 IsAskOf t a = (role_asks (role_of t) a ≡ true) × IsNumbered a
 
+-- what is asked of a day is a desk's
 abbrev pub IsRequestOf : Target → Request → Type 0
 IsRequestOf t (request.Ask a) = IsAskOf t a
-IsRequestOf t (request.Times day) = Unit {0}
+IsRequestOf t (request.OfDay day x) = role_of t ≡ role.Desk
 
 press_numbered : (fields : Data) → IfSome (press fields) (λ p. 1 ≤ p.number)
 unfolding press
@@ -177,6 +181,16 @@ pub asked_is : (t : Target) (body : List ℕ) (a : Ask) → request_by t body �
     → IsAskOf t a
 asked_is t body a asked = rw asked at (request_is t body)
 
+-- what is asked of a day, whose target is a desk's, is a desk's, and no report
+days_are_desks : (t : Target) (body : List ℕ) (day : Date) (x : DayAsk)
+    → request_by t body ≡ Some (request.OfDay day x) → role_of t ≡ role.Desk
+days_are_desks t body day x asked = rw asked at (request_is t body)
+
+pub desk_asks : (x : DayAsk) (from to : ℤ) → (is_desks (between x from to) ≡ true) × IsNumbered (between x from to)
+desk_asks of_day.Times from to = (refl, tt)
+desk_asks of_day.ClassTimes from to = (refl, tt)
+desk_asks (of_day.Closed search) from to = (refl, tt)
+
 -- an ask of a role is for the known terminals of the role
 pub addressed : (of : Role) (a : Ask) (who : Who) (r : Room) → role_asks of a ≡ true
     → is_of of who ≡ true → is_for who a r ≡ is_known who r
@@ -186,3 +200,11 @@ addressed role.Crew a (Crew c) r asks may = rw asks refl
 addressed role.Sender a (Position p) r asks may = (and_parts _ _ asks).1
 addressed role.Sender a (Crew c) r asks may = rw (and_parts (is_crews a) _ asks).0 refl
 addressed of a who r asks may = cc
+
+-- and so is what is asked of a day
+pub day_addressed : (t : Target) (body : List ℕ) (day : Date) (x : DayAsk) (from to : ℤ) (who : Who) (r : Room)
+    → request_by t body ≡ Some (request.OfDay day x) → is_of (role_of t) who ≡ true
+    → is_for who (between x from to) r ≡ is_known who r
+day_addressed t body day x from to who r asked may =
+    addressed role.Desk (between x from to) who r (desk_asks x from to).0
+    (rw (days_are_desks t body day x asked) at may)

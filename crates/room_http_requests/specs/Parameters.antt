@@ -1,8 +1,11 @@
--- The parameters in a target: its segments, and the numbers that they write.
+-- The parameters in a target: its segments, and the numbers and places that they write.
 use Rattle.std.specs.Prelude.{ℕ, List, [], Bool, nat_le, nat_lt, ◌==◌, ◌&&◌, if◌then◌else◌}
 use Rattle.std.specs.Prelude.{slice_index, unwrap_or, Option, Some, None}
 use Rattle.std.specs.List.{list_all, slice_get, slice_split}
+use Rattle.std.specs.Result.{result_ok}
 use Rattle.std.specs.Str.Parse.{digits_value}
+use Rattle.room_place.specs.References.{parse}
+use Rattle.room_place.specs.declared.places.Place.{Place}
 use Rattle.room_types.specs.Numerals.{are_digits, within}
 
 -- the byte is of ASCII
@@ -37,6 +40,14 @@ whole_of least greatest text =
 -- the number of an incident or of a report
 abbrev pub number_of : List ℕ → Option ℕ
 number_of text = whole_of 1 2147483647 text
+
+-- how many metres away
+abbrev pub metres_of : List ℕ → Option ℕ
+metres_of text = whole_of 1 99999 text
+
+-- the place that a grid reference names
+abbrev pub place_of : List ℕ → Option Place
+place_of text = result_ok (parse text)
 
 -- the number of a standby point
 abbrev pub point_number_of : List ℕ → Option ℕ

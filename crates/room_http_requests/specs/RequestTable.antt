@@ -1,10 +1,13 @@
 -- The table of requests: each path, its pattern and methods, what its target names, who may ask,
 -- and what is asked.
-use Rattle.std.specs.Prelude.{ℕ, List, codes, Bool, true, false, is_some, Option, Some, None}
+use Rattle.std.specs.Prelude.{ℕ, ℤ, List, codes, Bool, true, false, is_some, Option, Some, None}
 use Rattle.std.specs.Prelude.{option_map, option_and_then}
 use Rattle.room_place.specs.Plans.{has_division}
 use Rattle.room_types.specs.Texts.{callsign_of}
+use Rattle.room_types.specs.declared.asks.Ask.{Ask}
 use Rattle.room_types.specs.declared.asks.Ask.TheVariants as ask
+use Rattle.room_types.specs.declared.asks.Sought.{Sought}
+use Rattle.room_types.specs.declared.asks.Sought.TheVariants.{All, Near, Sent}
 use Rattle.room_types.specs.declared.asks.Who.{Who}
 use Rattle.room_types.specs.declared.asks.Who.TheVariants as who
 use Rattle.room_types.specs.declared.refusal_statuses.Allow.{Allow}
@@ -14,7 +17,10 @@ use Rattle.room_model.specs.Room.{Room}
 use Rattle.room_http_time.specs.Dates.{day_of}
 use Rattle.room_http_requests.specs.Bodies.{ask_with_body}
 use Rattle.room_http_requests.specs.BodyFields.{fields_of}
-use Rattle.room_http_requests.specs.Parameters.{number_of, point_number_of, segment_at}
+use Rattle.room_http_requests.specs.Parameters.{metres_of, number_of, place_of, point_number_of}
+use Rattle.room_http_requests.specs.Parameters.{segment_at}
+use Rattle.room_http_requests.specs.declared.request_table.DayAsk.{DayAsk}
+use Rattle.room_http_requests.specs.declared.request_table.DayAsk.TheVariants as of_day
 use Rattle.room_http_requests.specs.declared.request_table.Path.{Path}
 use Rattle.room_http_requests.specs.declared.request_table.Path.TheVariants as path
 use Rattle.room_http_requests.specs.declared.request_table.Request.{Request}
@@ -55,6 +61,10 @@ pattern_of path.SetPoint = codes "/points/{n}"
 pattern_of path.Loans = codes "/loans"
 pattern_of path.Offers = codes "/offers"
 pattern_of path.Times = codes "/times/{day}"
+pattern_of path.ClassTimes = codes "/times/{day}/classes"
+pattern_of path.Closed = codes "/closed/{day}/from/{n}"
+pattern_of path.ClosedBy = codes "/closed/{day}/vehicle/{c}/from/{n}"
+pattern_of path.ClosedNear = codes "/closed/{day}/near/{place}/{metres}/from/{n}"
 pattern_of path.Order = codes "/order"
 pattern_of path.Job = codes "/job"
 pattern_of path.Report = codes "/report"
@@ -72,6 +82,10 @@ allow_of path.Points = GetHead
 allow_of path.Loans = GetHead
 allow_of path.Offers = GetHead
 allow_of path.Times = GetHead
+allow_of path.ClassTimes = GetHead
+allow_of path.Closed = GetHead
+allow_of path.ClosedBy = GetHead
+allow_of path.ClosedNear = GetHead
 allow_of path.Order = GetHead
 allow_of path.Job = GetHead
 allow_of path.Last = GetHead
@@ -82,9 +96,19 @@ abbrev pub is_of_history : Path → Bool
 is_of_history path.Incident = true
 is_of_history path.Moves = true
 is_of_history path.Reports = true
+is_of_history path.ClassTimes = true
+is_of_history path.Closed = true
+is_of_history path.ClosedBy = true
+is_of_history path.ClosedNear = true
 is_of_history path.Job = true
 is_of_history path.Last = true
 is_of_history other = false
+
+-- the path of a search goes by what is sought
+abbrev pub search_path : Sought → Path
+search_path All = path.Closed
+search_path (Sent callsign) = path.ClosedBy
+search_path (Near place metres) = path.ClosedNear
 
 -- the path of a target, without its parameters
 abbrev pub path_of : Target → Path
@@ -116,6 +140,8 @@ path_of (target.SetPoint number) = path.SetPoint
 path_of target.Loans = path.Loans
 path_of target.Offers = path.Offers
 path_of (target.Times day) = path.Times
+path_of (target.ClassTimes day) = path.ClassTimes
+path_of (target.Closed day search) = search_path search.sought
 path_of target.Order = path.Order
 path_of target.Job = path.Job
 path_of target.Report = path.Report
@@ -127,7 +153,25 @@ cleared callsign number =
     option_and_then (λ c. option_and_then (λ n. Some (target.Clear c n)) (number_of number))
     (callsign_of callsign)
 
--- what a target of a path names: its parameters are its third segment, and for a report the fourth
+-- the incidents of a day that are sought, from a number on
+abbrev pub searched : List ℕ → Sought → List ℕ → Option Target
+searched day sought first =
+    option_and_then (λ d. option_map (λ n. target.Closed d (record { sought = sought; first = n }))
+    (number_of first)) (day_of day)
+
+-- those that a callsign's vehicle was sent to
+abbrev pub searched_by : List ℕ → List ℕ → List ℕ → Option Target
+searched_by day callsign first =
+    option_and_then (λ c. searched day (Sent c) first) (callsign_of callsign)
+
+-- those at most so many metres from a place
+abbrev pub searched_near : List ℕ → List ℕ → List ℕ → List ℕ → Option Target
+searched_near day place metres first =
+    option_and_then (λ p. option_and_then (λ m. searched day (Near p m) first) (metres_of metres))
+    (place_of place)
+
+-- what a target of a path names: its first parameter is its third segment; the number of a report
+-- is the fourth, and the parameters of a search are later ones
 abbrev pub named_by : Path → List ℕ → Option Target
 named_by path.Call text = Some target.Call
 named_by path.Incidents text = Some target.Incidents
@@ -157,6 +201,12 @@ named_by path.SetPoint text = option_map target.SetPoint (point_number_of (segme
 named_by path.Loans text = Some target.Loans
 named_by path.Offers text = Some target.Offers
 named_by path.Times text = option_map target.Times (day_of (segment_at 2 text))
+named_by path.ClassTimes text = option_map target.ClassTimes (day_of (segment_at 2 text))
+named_by path.Closed text = searched (segment_at 2 text) All (segment_at 4 text)
+named_by path.ClosedBy text =
+    searched_by (segment_at 2 text) (segment_at 4 text) (segment_at 6 text)
+named_by path.ClosedNear text =
+    searched_near (segment_at 2 text) (segment_at 4 text) (segment_at 5 text) (segment_at 7 text)
 named_by path.Order text = Some target.Order
 named_by path.Job text = Some target.Job
 named_by path.Report text = Some target.Report
@@ -201,6 +251,12 @@ is_known (who.Desk division) r = has_division r.plan division
 is_known (who.Crew callsign) r = is_some (vehicle_at callsign r)
 is_known (who.Position number) r = true
 
+-- what is asked of a day, from its first second to the next day's
+abbrev pub between : DayAsk → ℤ → ℤ → Ask
+between of_day.Times from to = ask.Times from to
+between of_day.ClassTimes from to = ask.ClassTimes from to
+between (of_day.Closed search) from to = ask.Closed from to search
+
 -- what a target that takes no body wants
 abbrev pub ask_without_body : Target → Option Request
 ask_without_body target.Incidents = Some (request.Ask ask.Incidents)
@@ -212,7 +268,9 @@ ask_without_body target.Queue = Some (request.Ask ask.Queue)
 ask_without_body target.Points = Some (request.Ask ask.Points)
 ask_without_body target.Loans = Some (request.Ask ask.Loans)
 ask_without_body target.Offers = Some (request.Ask ask.Offers)
-ask_without_body (target.Times day) = Some (request.Times day)
+ask_without_body (target.Times day) = Some (request.OfDay day of_day.Times)
+ask_without_body (target.ClassTimes day) = Some (request.OfDay day of_day.ClassTimes)
+ask_without_body (target.Closed day search) = Some (request.OfDay day (of_day.Closed search))
 ask_without_body target.Order = Some (request.Ask ask.Order)
 ask_without_body target.Job = Some (request.Ask ask.Job)
 ask_without_body target.Last = Some (request.Ask ask.Last)

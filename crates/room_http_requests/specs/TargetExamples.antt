@@ -1,8 +1,10 @@
 -- Which targets name which paths: each path by a target that fills its pattern, and in examples
 -- what targets name, and targets that miss a path narrowly.
-use Rattle.std.specs.Prelude.{Bool, true, ◌≡◌, ℕ, List, [], ◌∷◌, ◌++◌, bytes_eq, codes}
+use Rattle.std.specs.Prelude.{Bool, true, ◌≡◌, ℕ, ◌+◌, List, [], ◌∷◌, ◌++◌, bytes_eq, codes}
 use Rattle.std.specs.Prelude.{if◌then◌else◌, map, option_map, Some, None, Result, Ok, Err}
 use Rattle.std.specs.List.{list_any, slice_split}
+use Rattle.room_types.specs.declared.asks.Sought.{Sought}
+use Rattle.room_types.specs.declared.asks.Sought.TheVariants.{All, Near, Sent}
 use Rattle.room_types.specs.declared.refusal_statuses.Allow.TheVariants.{GetHead, Post}
 use Rattle.room_types.specs.declared.refusal_statuses.Refusal.{Refusal}
 use Rattle.room_types.specs.declared.refusal_statuses.Refusal.TheVariants.{NoPath, WrongMethod}
@@ -20,6 +22,8 @@ value_for segment =
     if bytes_eq segment (codes "{n}") then codes "1"
     else if bytes_eq segment (codes "{c}") then codes "A1"
     else if bytes_eq segment (codes "{day}") then codes "2024-02-29"
+    else if bytes_eq segment (codes "{place}") then codes "TQ3203480467"
+    else if bytes_eq segment (codes "{metres}") then codes "500"
     else segment
 
 -- segments with slashes between them
@@ -68,6 +72,33 @@ vehicle_names =
     (codes "/vehicles/0/off", target.Off (codes "0")) ∷
     []
 
+-- a search of 2024-02-29 from a number
+abbrev pub closed : Sought → ℕ → Target
+closed sought first = target.Closed (date 2024 2 29) (record { sought = sought; first = first })
+
+-- so many metres from a place in the square TQ
+abbrev pub near : ℕ → ℕ → ℕ → Sought
+near east north metres = Near (record { east = 500000 + east; north = 100000 + north }) metres
+
+abbrev pub by_a1 : Sought
+by_a1 = Sent (codes "A1")
+
+-- at most 9 metres from the corner of TQ
+abbrev pub at_corner : Sought
+at_corner = near 0 0 9
+
+-- targets of searches
+abbrev pub search_names : List (List ℕ × Target)
+search_names =
+    (codes "/closed/2024-02-29/from/1", closed All 1) ∷
+    (codes "/closed/2024-02-29/from/2147483647", closed All 2147483647) ∷
+    (codes "/closed/2024-02-29/vehicle/A1/from/7", closed by_a1 7) ∷
+    (codes "/closed/2024-02-29/vehicle/0/from/2147483647", closed (Sent (codes "0")) 2147483647) ∷
+    (codes "/closed/2024-02-29/near/TQ3203480467/500/from/7", closed (near 32034 80467 500) 7) ∷
+    (codes "/closed/2024-02-29/near/TQ32038046/99999/from/1", closed (near 32030 80460 99999) 1) ∷
+    (codes "/closed/2024-02-29/near/TQ320804/1/from/2", closed (near 32000 80400 1) 2) ∷
+    []
+
 -- the other targets
 abbrev pub other_names : List (List ℕ × Target)
 other_names =
@@ -86,6 +117,8 @@ other_names =
     (codes "/times/1970-01-01", target.Times (date 1970 1 1)) ∷
     (codes "/times/2099-12-31", target.Times (date 2099 12 31)) ∷
     (codes "/times/2000-02-29", target.Times (date 2000 2 29)) ∷
+    (codes "/times/2024-02-29/classes", target.ClassTimes (date 2024 2 29)) ∷
+    (codes "/times/1970-01-01/classes", target.ClassTimes (date 1970 1 1)) ∷
     []
 
 -- targets that miss a path
@@ -160,6 +193,50 @@ stray_days =
     codes "/times/2026/01/01" ∷
     codes "/times/20260101" ∷
     codes "/times/+026-01-01" ∷
+    codes "/times/2026-02-30/classes" ∷
+    codes "/times/2026-01-01/classes/" ∷
+    codes "/times/2026-01-01/class" ∷
+    codes "/times/classes" ∷
+    codes "/closed/2026-02-30/from/1" ∷
+    codes "/closed/2026-02-30/vehicle/A1/from/1" ∷
+    codes "/closed/2026-02-30/near/TQ3203480467/500/from/1" ∷
+    []
+
+-- targets that miss a search, its first number or its callsign
+abbrev pub stray_searches : List (List ℕ)
+stray_searches =
+    codes "/closed" ∷
+    codes "/closed/2026-01-01" ∷
+    codes "/closed/2026-01-01/from" ∷
+    codes "/closed/2026-01-01/from/" ∷
+    codes "/closed/2026-01-01/from/0" ∷
+    codes "/closed/2026-01-01/from/01" ∷
+    codes "/closed/2026-01-01/from/2147483648" ∷
+    codes "/closed/2026-01-01/from/1/" ∷
+    codes "/closed/2026-01-01/to/1" ∷
+    codes "/closed/2026-01-01/vehicle/A1" ∷
+    codes "/closed/2026-01-01/vehicle/A1/from/0" ∷
+    codes "/closed/2026-01-01/vehicle/a1/from/1" ∷
+    codes "/closed/2026-01-01/vehicle/A123456789/from/1" ∷
+    codes "/closed/2026-01-01/vehicle//from/1" ∷
+    []
+
+-- targets that miss the place of a search, or its metres
+abbrev pub stray_metres : List (List ℕ)
+stray_metres =
+    codes "/closed/2026-01-01/near/TQ3203480467/500" ∷
+    codes "/closed/2026-01-01/near/TQ3203480467/from/1" ∷
+    codes "/closed/2026-01-01/near/TQ3203480467/500/from/0" ∷
+    codes "/closed/2026-01-01/near/TQ3203480467/0/from/1" ∷
+    codes "/closed/2026-01-01/near/TQ3203480467/100000/from/1" ∷
+    codes "/closed/2026-01-01/near/TQ3203480467/0500/from/1" ∷
+    codes "/closed/2026-01-01/near/TQ3203480467/-1/from/1" ∷
+    codes "/closed/2026-01-01/near/XX3203480467/500/from/1" ∷
+    codes "/closed/2026-01-01/near/tq3203480467/500/from/1" ∷
+    codes "/closed/2026-01-01/near/TQ320348046/500/from/1" ∷
+    codes "/closed/2026-01-01/near/TQ32034%2080467/500/from/1" ∷
+    codes "/closed/2026-01-01/near/TQ/500/from/1" ∷
+    codes "/closed/2026-01-01/near/A1/500/from/1" ∷
     []
 
 -- methods and targets, with what they come to where no history is served
@@ -179,6 +256,12 @@ requests =
     ((codes "POST", codes "/moves"), Err NoPath) ∷
     ((codes "GET", codes "/job"), Err NoPath) ∷
     ((codes "POST", codes "/last"), Err NoPath) ∷
+    ((codes "GET", codes "/times/2024-02-29"), Ok (target.Times (date 2024 2 29))) ∷
+    ((codes "GET", codes "/times/2024-02-29/classes"), Err NoPath) ∷
+    ((codes "POST", codes "/times/2024-02-29/classes"), Err NoPath) ∷
+    ((codes "GET", codes "/closed/2024-02-29/from/1"), Err NoPath) ∷
+    ((codes "HEAD", codes "/closed/2024-02-29/vehicle/A1/from/1"), Err NoPath) ∷
+    ((codes "GET", codes "/closed/2024-02-29/near/TQ3203480467/500/from/1"), Err NoPath) ∷
     []
 
 -- those of history, where it is served
@@ -195,6 +278,32 @@ history_requests =
     ((codes "POST", codes "/last"), Err (WrongMethod GetHead)) ∷
     ((codes "GET", codes "/incidents/0"), Err NoPath) ∷
     ((codes "POST", codes "/incidents/1/close"), Ok (target.Close 1)) ∷
+    []
+
+-- those of a day's times by class, where history is served
+abbrev pub class_requests : List ((List ℕ × List ℕ) × Result Target Refusal)
+class_requests =
+    ((codes "GET", codes "/times/2024-02-29/classes"), Ok (target.ClassTimes (date 2024 2 29))) ∷
+    ((codes "HEAD", codes "/times/2024-02-29/classes"), Ok (target.ClassTimes (date 2024 2 29))) ∷
+    ((codes "POST", codes "/times/2024-02-29/classes"), Err (WrongMethod GetHead)) ∷
+    ((codes "POST", codes "/times/2023-02-29/classes"), Err NoPath) ∷
+    []
+
+-- those of searches, where history is served
+abbrev pub search_requests : List ((List ℕ × List ℕ) × Result Target Refusal)
+search_requests =
+    ((codes "GET", codes "/closed/2024-02-29/from/7"), Ok (closed All 7)) ∷
+    ((codes "HEAD", codes "/closed/2024-02-29/from/7"), Ok (closed All 7)) ∷
+    ((codes "POST", codes "/closed/2024-02-29/from/7"), Err (WrongMethod GetHead)) ∷
+    ((codes "POST", codes "/closed/2024-02-29/from/0"), Err NoPath) ∷
+    ((codes "GET", codes "/closed/2024-02-29/vehicle/A1/from/7"), Ok (closed by_a1 7)) ∷
+    ((codes "HEAD", codes "/closed/2024-02-29/vehicle/A1/from/7"), Ok (closed by_a1 7)) ∷
+    ((codes "POST", codes "/closed/2024-02-29/vehicle/A1/from/7"), Err (WrongMethod GetHead)) ∷
+    ((codes "POST", codes "/closed/2024-02-29/vehicle/a1/from/7"), Err NoPath) ∷
+    ((codes "GET", codes "/closed/2024-02-29/near/TQ000000/9/from/7"), Ok (closed at_corner 7)) ∷
+    ((codes "HEAD", codes "/closed/2024-02-29/near/TQ000000/9/from/7"), Ok (closed at_corner 7)) ∷
+    ((codes "POST", codes "/closed/2024-02-29/near/TQ000000/9/from/7"), Err (WrongMethod GetHead)) ∷
+    ((codes "POST", codes "/closed/2024-02-29/near/TQ000000/0/from/7"), Err NoPath) ∷
     []
 
 -- each of the targets names what stands beside it

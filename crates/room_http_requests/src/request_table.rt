@@ -2,14 +2,16 @@
 //! and what is asked.
 ghost use Rattle.std.specs.Prelude.{◌≡◌, ◌⊎◌, MatchResult, None, Some};
 ghost use Rattle.room_types.specs.declared.refusal_statuses.Refusal.TheVariants.{BadBody, Memory};
-ghost use Rattle.room_http_requests.specs.RequestTable.{allow_of, is_of, is_of_history, members_of};
-ghost use Rattle.room_http_requests.specs.RequestTable.{named_by, pattern_of, request_by, role_of};
+ghost use Rattle.room_http_requests.specs.RequestTable.{allow_of, between, is_of, is_of_history};
+ghost use Rattle.room_http_requests.specs.RequestTable.{members_of, named_by, pattern_of};
+ghost use Rattle.room_http_requests.specs.RequestTable.{request_by, role_of, searched};
 
 use crate::bodies::ask_with_body;
 use crate::body_fields::fields_of;
 use crate::parameters::{segment, whole};
 use room_http_time::days::Day;
-use room_types::asks::{Ask, Who};
+use room_place::places::Place;
+use room_types::asks::{Ask, Search, Sought, Who};
 use room_types::callsign::Callsign;
 use room_types::numbers::{Number, PointNumber};
 use room_types::refusal_statuses::{Allow, Refusal};
@@ -46,6 +48,10 @@ pub enum Path {
     Loans,
     Offers,
     Times,
+    ClassTimes,
+    Closed,
+    ClosedBy,
+    ClosedNear,
     Order,
     Job,
     Report,
@@ -53,7 +59,7 @@ pub enum Path {
 }
 
 /// All paths.
-pub const PATHS: [Path; 32] = [
+pub const PATHS: [Path; 36] = [
     Path::Call,
     Path::Incidents,
     Path::Incident,
@@ -82,6 +88,10 @@ pub const PATHS: [Path; 32] = [
     Path::Loans,
     Path::Offers,
     Path::Times,
+    Path::ClassTimes,
+    Path::Closed,
+    Path::ClosedBy,
+    Path::ClosedNear,
     Path::Order,
     Path::Job,
     Path::Report,
@@ -122,6 +132,10 @@ impl Path {
             Path::Loans => "/loans",
             Path::Offers => "/offers",
             Path::Times => "/times/{day}",
+            Path::ClassTimes => "/times/{day}/classes",
+            Path::Closed => "/closed/{day}/from/{n}",
+            Path::ClosedBy => "/closed/{day}/vehicle/{c}/from/{n}",
+            Path::ClosedNear => "/closed/{day}/near/{place}/{metres}/from/{n}",
             Path::Order => "/order",
             Path::Job => "/job",
             Path::Report => "/report",
@@ -144,6 +158,10 @@ impl Path {
             | Path::Loans
             | Path::Offers
             | Path::Times
+            | Path::ClassTimes
+            | Path::Closed
+            | Path::ClosedBy
+            | Path::ClosedNear
             | Path::Order
             | Path::Job
             | Path::Last => Allow::GetHead,
@@ -175,7 +193,15 @@ impl Path {
     {
         matches!(
             self,
-            Path::Incident | Path::Moves | Path::Reports | Path::Job | Path::Last
+            Path::Incident
+                | Path::Moves
+                | Path::Reports
+                | Path::ClassTimes
+                | Path::Closed
+                | Path::ClosedBy
+                | Path::ClosedNear
+                | Path::Job
+                | Path::Last
         )
     }
 }
@@ -211,6 +237,8 @@ pub enum Target {
     Loans,
     Offers,
     Times(Day),
+    ClassTimes(Day),
+    Closed(Day, Search),
     Order,
     Job,
     Report,
@@ -219,7 +247,8 @@ pub enum Target {
 
 impl Target {
     /// What the text of a target of this path names: none where a parameter is not of its form. The
-    /// parameter is the third segment, and for a report the fourth is one too.
+    /// first parameter is the third segment; the number of a report is the fourth, and the
+    /// parameters of a search are later ones.
     pub(crate) fn parse(path: Path, text: &str) -> Option<Target>
         ensures { result ≡ named_by path text.now }
     {
@@ -257,6 +286,17 @@ impl Target {
             Path::Loans => Some(Target::Loans),
             Path::Offers => Some(Target::Offers),
             Path::Times => Some(Target::Times(Day::parse(parameter)?)),
+            Path::ClassTimes => Some(Target::ClassTimes(Day::parse(parameter)?)),
+            Path::Closed => searched(parameter, Sought::All, segment(text, 4)),
+            Path::ClosedBy => {
+                let callsign = Callsign::parse(segment(text, 4))?;
+                searched(parameter, Sought::Sent(callsign), segment(text, 6))
+            }
+            Path::ClosedNear => {
+                let place = Place::parse(segment(text, 4)).ok()?;
+                let metres = whole(segment(text, 5))?;
+                searched(parameter, Sought::Near(place, metres), segment(text, 7))
+            }
             Path::Order => Some(Target::Order),
             Path::Job => Some(Target::Job),
             Path::Report => Some(Target::Report),
@@ -280,6 +320,15 @@ impl Target {
             _ => 0,
         }
     }
+}
+
+/// The incidents of a day that are sought, from a number on.
+fn searched(day: &str, sought: Sought, first: &str) -> Option<Target>
+    ensures { result ≡ searched day.now sought first.now }
+{
+    let day = Day::parse(day)?;
+    let first = whole(first)?;
+    Some(Target::Closed(day, Search { sought, first }))
 }
 
 /// What a terminal is.
@@ -319,12 +368,36 @@ impl Role {
     }
 }
 
+/// What is asked of a day.
+#[derive(Clone, Copy)]
+pub enum DayAsk {
+    Times,
+    /// Its times by class.
+    ClassTimes,
+    /// Those incidents that were opened on it, are over and are sought.
+    Closed(Search),
+}
+
+impl DayAsk {
+    /// What is asked of the room, where the day is from one second of UTC since 1970 to another,
+    /// which is left out.
+    pub fn between(self, from: i64, to: i64) -> Ask
+        ensures { result ≡ between self from to }
+    {
+        match self {
+            DayAsk::Times => Ask::Times(from, to),
+            DayAsk::ClassTimes => Ask::ClassTimes(from, to),
+            DayAsk::Closed(search) => Ask::Closed(from, to, search),
+        }
+    }
+}
+
 /// What a request asks of the room.
 #[derive(Clone, Copy)]
 pub enum Request {
     Ask(Ask),
-    /// The times of a day, whose first and last instants the plan's time zone gives.
-    Times(Day),
+    /// What is asked of a day, whose first and last instants the plan's time zone gives.
+    OfDay(Day, DayAsk),
 }
 
 /// What a request asks for, by its target and its body.
@@ -348,7 +421,9 @@ pub fn ask_of(alloc: Global, target: &Target, body: &[u8]) -> Result<Request, Re
         Target::Points => Ok(Request::Ask(Ask::Points)),
         Target::Loans => Ok(Request::Ask(Ask::Loans)),
         Target::Offers => Ok(Request::Ask(Ask::Offers)),
-        Target::Times(day) => Ok(Request::Times(day)),
+        Target::Times(day) => Ok(Request::OfDay(day, DayAsk::Times)),
+        Target::ClassTimes(day) => Ok(Request::OfDay(day, DayAsk::ClassTimes)),
+        Target::Closed(day, search) => Ok(Request::OfDay(day, DayAsk::Closed(search))),
         Target::Order => Ok(Request::Ask(Ask::Order)),
         Target::Job => Ok(Request::Ask(Ask::Job)),
         Target::Last => Ok(Request::Ask(Ask::Last)),

@@ -1,4 +1,7 @@
 pub mod CallLaws
+pub mod ClassLaws
+pub mod ClosedLaws
+pub mod FilterLaws
 pub mod LeastLaws
 pub mod LinkLaws
 pub mod MergeLaws

@@ -5,3 +5,4 @@ pub mod ServedNeeds
 pub mod LinkedCalls
 pub mod Tallies
 pub mod DayIncidents
+pub mod ClosedPages

@@ -7,7 +7,7 @@ ghost use Rattle.room_types.specs.KeyedRows.{IsKeyed};
 ghost use Rattle.room_types.specs.Keys.{owns_incident};
 ghost use Rattle.room_types.specs.declared.answers.Answer.TheVariants as answer;
 ghost use Rattle.room_types.specs.declared.refusal_statuses.Refusal.TheVariants.{Memory};
-ghost use Rattle.room_model.specs.DayTimes.{is_prompt, show_times, times_line};
+ghost use Rattle.room_model.specs.DayTimes.{activation_of, is_prompt, show_times, times_line};
 ghost use Rattle.room_model.specs.Decisions.{show};
 ghost use Rattle.room_model.specs.Room.{Room};
 ghost use Rattle.room_incident.specs.DayIncidents.{AreOneDivisions, is_opened_between, line_number};
@@ -76,8 +76,9 @@ fn lines_between(
     Ok(lines)
 }
 
-// Merged incidents have no times.
-fn is_opened_between(incident: &Incident, from: i64, to: i64) -> bool
+/// Whether the incident is active or closed, and was opened in these seconds. Merged incidents have
+/// no times.
+pub(crate) fn is_opened_between(incident: &Incident, from: i64, to: i64) -> bool
     ensures { result ≡ is_opened_between from to incident.now }
 {
     let opened = i64::from(incident.opened.get());
@@ -90,10 +91,17 @@ fn times_line(incident: &Incident) -> TimesLine
     TimesLine {
         number: incident.number,
         opened: incident.opened,
-        activation: incident
-            .first_order
-            .map(|order| order.get().saturating_sub(incident.opened.get())),
+        activation: activation_of(incident),
     }
+}
+
+/// The seconds from the opening of the incident to its first order; none where it had no order.
+pub(crate) fn activation_of(incident: &Incident) -> Option<u32>
+    ensures { result ≡ activation_of incident.now }
+{
+    incident
+        .first_order
+        .map(|order| order.get().saturating_sub(incident.opened.get()))
 }
 
 fn activated(lines: &[TimesLine]) -> u32
@@ -116,7 +124,8 @@ fn prompt(lines: &[TimesLine]) -> u32
         .count() as u32
 }
 
-fn is_prompt(activation: Option<u32>) -> bool
+/// Whether there is a first order, and it was prompt.
+pub(crate) fn is_prompt(activation: Option<u32>) -> bool
     ensures { result ≡ is_prompt activation }
 {
     activation.is_some_and(|seconds| seconds <= PROMPT)

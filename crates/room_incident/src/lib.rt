@@ -4,6 +4,8 @@
 pub mod active_incidents;
 pub mod call_links;
 pub mod calls;
+pub mod class_times;
+pub mod closed_incidents;
 pub mod crew_jobs;
 pub mod day_times;
 pub mod incident_closing;

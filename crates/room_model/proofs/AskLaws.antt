@@ -2,7 +2,7 @@
 use Rattle.std.proofs.Common.{ap, eq-eqb, subst, sym, ◌∙◌}
 use Rattle.std.specs.Ordering.{is_eq, ordering_reverse}
 use Rattle.std.specs.Prelude.{Bool, List, None, Option, Some, [], is_some, length, map, nat_le, not}
-use Rattle.std.specs.Prelude.{option_map, refl, true, ℕ, ℤ, ◌&&◌, ◌++◌, ◌-◌, ◌==◌, ◌≡◌}
+use Rattle.std.specs.Prelude.{option_map, refl, true, ℕ, ℤ, ◌&&◌, ◌++◌, ◌-◌, ◌==◌, ◌∷◌, ◌≡◌}
 use Rattle.std.specs.declared.cmp.Ordering.{Ordering}
 use Rattle.std.specs.declared.cmp.Ordering.TheVariants.{Equal, Greater, Less}
 use Rattle.room_place.specs.Choice.{Among, chosen}
@@ -12,6 +12,7 @@ use Rattle.room_types.specs.KeyLemmas.{callsigns_total, exact_pair, pairs_total}
 use Rattle.room_types.specs.declared.answers.PointLine.{PointLine}
 use Rattle.room_types.specs.declared.answers.VehicleLine.{VehicleLine}
 use Rattle.room_types.specs.declared.asks.Ask.{Ask}
+use Rattle.room_types.specs.declared.asks.Search.{Search}
 use Rattle.room_types.specs.declared.codes.Kind.{Kind}
 use Rattle.room_types.specs.declared.codes.Kind.TheVariants.{Ambulance, Car, Support}
 use Rattle.room_types.specs.declared.needs.Counts.{Counts}
@@ -25,7 +26,9 @@ use Rattle.room_model.proofs.Sights.{SeesAsked, SeesCover, SeesIncident, SeesVeh
 use Rattle.room_model.proofs.Tests.{map_among, or_left, or_right, row_key}
 use Rattle.room_types.specs.Codes.{is_active, is_free}
 use Rattle.room_types.specs.Needs.{need_of, needs_by}
-use Rattle.room_model.specs.DayTimes.{show_times, times_line, times_of}
+use Rattle.room_model.specs.ClosedIncidents.{from_number, incidents_found, page_of, show_closed}
+use Rattle.room_model.specs.DayTimes.{class_line, show_class_times, show_times, times_line}
+use Rattle.room_model.specs.DayTimes.{times_of}
 use Rattle.room_model.specs.Decisions.{Verdict, refuse_if, show, where_active, where_held}
 use Rattle.room_model.specs.Incidents.{change_needs, close, close_active, history_of, incident_line}
 use Rattle.room_model.specs.Incidents.{lacking, merge, merge_of, needs_changed, show_incident}
@@ -239,6 +242,19 @@ module _ (d : ℕ) (s r : Room) where
   unfolding show_times
   times_same from to h = ap (λ is. show (answer.Times (times_of from to (map times_line is)))) h
 
+  classes_same : (from to : ℤ) → incidents_opened d from to s ≡ incidents_opened d from to r
+      → show_class_times d from to s ≡ show_class_times d from to r
+  unfolding show_class_times
+  classes_same from to h =
+      ap
+      (λ is. show (answer.ClassTimes (record { from = from; to = to; lines = map (class_line is) (1 ∷ 2 ∷ 3 ∷ []) }))) h
+
+  closed_same : (from to : ℤ) (x : Search)
+      → incidents_found d from to x.sought s ≡ incidents_found d from to x.sought r
+      → show_closed d from to x s ≡ show_closed d from to x r
+  unfolding show_closed
+  closed_same from to x h = ap (λ is. show (answer.Closed (page_of (from_number x.first is)))) h
+
   -- ---- proposals
   breaks_same : (at : ℕ) (p : Option ℕ) → SeesCover d s r
       → breaks_post d at s p ≡ breaks_post d at r p
@@ -370,6 +386,8 @@ module _ (d : ℕ) (s r : Room) where
   asked_same ask.Loans at sees = loans_same (sees.same_loans (λ k. refl))
   asked_same ask.Offers at sees = offers_same (sees.same_offers (λ k. refl))
   asked_same (ask.Times from to) at sees = times_same from to (sees.same_opened from to refl)
+  asked_same (ask.ClassTimes from to) at sees = classes_same from to (sees.same_classes from to refl)
+  asked_same (ask.Closed from to x) at sees = closed_same from to x (sees.same_found from to x refl)
   asked_same ask.Order at sees = refl
   asked_same ask.Job at sees = refl
   asked_same (ask.Report p) at sees = refl

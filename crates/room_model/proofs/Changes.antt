@@ -51,8 +51,8 @@ use Rattle.room_model.specs.Reports.{outcome_of, report_held, report_in, report_
 use Rattle.room_model.specs.Reports.{report_somewhere, turn_changes}
 use Rattle.room_model.specs.Room.{Room}
 use Rattle.room_model.specs.Shares.{ArePlain, IsPlain}
-use Rattle.room_model.specs.Step.{course, decided, desk_asks, moves_in, position_asks}
-use Rattle.room_model.specs.Step.{single_asks, verdict_of, who_asks}
+use Rattle.room_model.specs.Step.{course, decided, desk_asks, moves_in, position_asks, single_asks}
+use Rattle.room_model.specs.Step.{verdict_of, who_asks}
 use Rattle.room_model.specs.Vehicles.{duty, mobilise, mobilise_held, mobilised, off, off_duty}
 use Rattle.room_model.specs.Vehicles.{on_duty, stand_down, stand_down_held, standby, standby_at}
 use Rattle.room_model.specs.Vehicles.{stands_by, turn_stood_down}

@@ -3,6 +3,7 @@ pub mod AskLaws
 pub mod AssignedOnce
 pub mod CallsApart
 pub mod Changes
+pub mod ClosedLaws
 pub mod CrewLaws
 pub mod CrewSliceLaws
 pub mod DecisionLaws
@@ -10,6 +11,7 @@ pub mod EnrolLaws
 pub mod FleetAgain
 pub mod FleetStays
 pub mod Foreign
+pub mod FoundIncidents
 pub mod Handed
 pub mod IncidentChanges
 pub mod JobLaws

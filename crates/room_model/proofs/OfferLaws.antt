@@ -40,7 +40,8 @@ use Rattle.room_model.specs.CrewJobs.{job_in}
 use Rattle.room_model.specs.Crossing.{Crossing, cross, cross_call, cross_crew, cross_desk}
 use Rattle.room_model.specs.Crossing.{cross_other, cross_own, cross_position, cross_report}
 use Rattle.room_model.specs.Crossing.{cross_who}
-use Rattle.room_model.specs.DayTimes.{show_times}
+use Rattle.room_model.specs.ClosedIncidents.{incidents_found, show_closed}
+use Rattle.room_model.specs.DayTimes.{show_class_times, show_times}
 use Rattle.room_model.specs.Decisions.{Verdict, changes_of, show, where_active, where_found}
 use Rattle.room_model.specs.Decisions.{where_held}
 use Rattle.room_model.specs.Events.{by_desk, is_lend}
@@ -55,11 +56,11 @@ use Rattle.room_model.specs.Proposals.{all_proposed, candidates, eligible, is_be
 use Rattle.room_model.specs.Proposals.{propose, proposed}
 use Rattle.room_model.specs.Queries.{active_incidents, all_held, assignment_at, assignment_of}
 use Rattle.room_model.specs.Queries.{borrowed, calls_of, held, holders, incident_of}
-use Rattle.room_model.specs.Queries.{incidents_opened, is_attended, is_eligible, kept_call}
-use Rattle.room_model.specs.Queries.{kept_report, last_number, last_serial, lent, link_target}
-use Rattle.room_model.specs.Queries.{loan_at, loans_of, offered_by, offered_to, offers_of}
-use Rattle.room_model.specs.Queries.{open_turn, point_of, points_of, report_of, reports_of, served}
-use Rattle.room_model.specs.Queries.{turns_of, vehicle_at}
+use Rattle.room_model.specs.Queries.{incidents_opened, incidents_over, is_attended, is_eligible}
+use Rattle.room_model.specs.Queries.{kept_call, kept_report, last_number, last_serial, lent}
+use Rattle.room_model.specs.Queries.{link_target, loan_at, loans_of, offered_by, offered_to}
+use Rattle.room_model.specs.Queries.{offers_of, open_turn, point_of, points_of, report_of}
+use Rattle.room_model.specs.Queries.{reports_of, served, turns_by, turns_of, vehicle_at}
 use Rattle.room_model.specs.Queue.{clear, entries, exception, overdue, shift_over, show_reports}
 use Rattle.room_model.specs.Queue.{late_for_scene, late_turn, unanswered, uncovered, unacknowledged}
 use Rattle.room_model.specs.Queue.{unserved}
@@ -129,10 +130,10 @@ module _ (r : Room) where
   desk_alike : (d : ℕ) (a : Ask) (at : ℕ) → speaks_of_offers a ≡ false
       → desk_asks d a at (without_offers r) ≡ desk_asks d a at r
   unfolding show_incidents show_incident propose mobilise change_needs merge close show_vehicles stand_down standby duty
-      off recall give_back clear show_reports show_points show_loans show_times active_incidents all_held assignment_of
-      borrowed
-      calls_of held holders incident_of incidents_opened is_attended lent loans_of open_turn point_of points_of
-      report_of reports_of served turns_of
+      off recall give_back clear show_reports show_points show_loans show_times show_class_times show_closed
+      active_incidents
+      all_held assignment_of borrowed calls_of held holders incident_of incidents_found incidents_opened incidents_over
+      is_attended lent loans_of open_turn point_of points_of report_of reports_of served turns_by turns_of
   desk_alike d (ask.Propose n) at h =
       λ j. where_active (incident_of d n r) (λ i. show (answer.Proposals (all_alike d i at j)))
   desk_alike d (ask.Lend c to until) at h = cc

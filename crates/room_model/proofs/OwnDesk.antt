@@ -26,6 +26,7 @@ use Rattle.room_types.specs.declared.tables.Turn.{Turn}
 use Rattle.room_types.specs.declared.tables.Vehicle.{Vehicle}
 use Rattle.room_types.specs.Texts.{Callsign}
 use Rattle.room_model.proofs.AskLaws.{asked_same, clear_same}
+use Rattle.room_model.proofs.FoundIncidents.{found_alike}
 use Rattle.room_model.proofs.MoveFolds.{then_alike}
 use Rattle.room_model.proofs.OwnChanges.{in_order_apply, in_order_own, own_apply_own}
 use Rattle.room_model.proofs.PlainChanges.{move_plain}
@@ -38,9 +39,9 @@ use Rattle.room_model.specs.Calls.{call_in, call_taken}
 use Rattle.room_types.specs.Codes.{is_active, is_mobilised}
 use Rattle.room_model.specs.Moments.{age}
 use Rattle.room_model.specs.Queries.{active_incidents, borrowed, calls_of, held, incident_of}
-use Rattle.room_model.specs.Queries.{incidents_opened, is_attended, is_candidate, is_given}
-use Rattle.room_model.specs.Queries.{is_nearer, last_number, link_target, open_turn, report_of}
-use Rattle.room_model.specs.Queries.{reports_of, served, turns_of}
+use Rattle.room_model.specs.Queries.{incidents_opened, incidents_over, is_attended, is_candidate}
+use Rattle.room_model.specs.Queries.{is_given, is_nearer, last_number, link_target, open_turn}
+use Rattle.room_model.specs.Queries.{report_of, reports_of, served, turns_by, turns_of}
 use Rattle.room_model.specs.Queue.{entries, exception, overdue, shift_over, late_for_scene}
 use Rattle.room_model.specs.Queue.{late_incident, late_turn, unanswered, uncovered, unacknowledged}
 use Rattle.room_model.specs.Queue.{unacknowledged_turn, unserved}
@@ -103,6 +104,14 @@ module _ (d : ℕ) (r : Room) (in_order : IsInOrder r) where
       ≡ incidents_opened d from to r
   unfolding incidents_opened
   opened_own from to = filter_filter _ (owns_incident d) r.incidents (λ x h. left_true _ _ h)
+
+  over_own : (from to : ℤ) → incidents_over d from to (own d r) ≡ incidents_over d from to r
+  unfolding incidents_over
+  over_own from to = filter_filter _ (owns_incident d) r.incidents (λ x h. left_true _ _ h)
+
+  turns_by_own : (c : Callsign) → turns_by d c (own d r) ≡ turns_by d c r
+  unfolding turns_by
+  turns_by_own c = filter_filter _ (owns_turn d) r.turns (λ x h. left_true _ _ h)
 
   pub turn_own : (c : Callsign) → open_turn d c (own d r) ≡ open_turn d c r
   unfolding open_turn
@@ -230,6 +239,8 @@ module _ (d : ℕ) (r : Room) (in_order : IsInOrder r) where
     active = λ e i m. sees_incident_own i.number;
     same_active_calls = λ e f i m. calls_own i.number;
     same_opened = λ from to e. opened_own from to;
+    same_classes = λ from to e. opened_own from to;
+    same_found = λ from to x e. found_alike d (own d r) r from to x.sought (over_own from to) (λ c f. turns_by_own c);
     same_entries = λ e. entries_own at;
     same_all_held = λ e. sees_own.same_all_held;
     same_assignment = λ e. sees_own.same_assignment;

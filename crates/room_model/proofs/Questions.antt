@@ -17,7 +17,8 @@ use Rattle.room_types.specs.declared.tables.Vehicle.{Vehicle}
 use Rattle.room_model.proofs.DecisionLaws.{by_refuse}
 use Rattle.room_model.proofs.Tests.{or_left}
 use Rattle.room_model.specs.CrewJobs.{job_in}
-use Rattle.room_model.specs.DayTimes.{show_times}
+use Rattle.room_model.specs.ClosedIncidents.{show_closed}
+use Rattle.room_model.specs.DayTimes.{show_class_times, show_times}
 use Rattle.room_model.specs.Decisions.{Verdict, changes_of, where_active, where_found, where_held}
 use Rattle.room_model.specs.Incidents.{show_incident, show_incidents}
 use Rattle.room_model.specs.Loans.{show_loans, show_offers}
@@ -26,8 +27,8 @@ use Rattle.room_model.specs.Proposals.{propose}
 use Rattle.room_model.specs.Queries.{assignment_at, vehicle_at}
 use Rattle.room_model.specs.Queue.{show_queue, show_reports}
 use Rattle.room_model.specs.Room.{Room, apply}
-use Rattle.room_model.specs.Step.{desk_asks, is_of_role, is_question, position_asks}
-use Rattle.room_model.specs.Step.{room_after, who_asks}
+use Rattle.room_model.specs.Step.{desk_asks, is_of_role, is_question, position_asks, room_after}
+use Rattle.room_model.specs.Step.{who_asks}
 use Rattle.room_model.specs.Vehicles.{show_vehicles}
 use Rattle.room_types.specs.declared.asks.Ask.TheVariants as ask
 use Rattle.room_types.specs.declared.refusal_statuses.Refusal.TheVariants as refusal
@@ -60,7 +61,7 @@ IsQuiet who a = is_question a || not (is_of_role who a) ≡ true
 module _ (at : ℕ) (r : Room) where
   desk_shows : (d : ℕ) (a : Ask) → IsQuiet (Desk d) a → ChangesNothing (desk_asks d a at r)
   unfolding show_incidents show_incident show_vehicles show_reports show_queue show_points show_loans show_offers
-      show_times propose
+      show_times show_class_times show_closed propose
   desk_shows d (ask.Call f) h = refl
   desk_shows d a h = first_of (cc, search by_form depth 9)
 

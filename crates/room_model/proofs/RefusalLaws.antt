@@ -26,7 +26,8 @@ use Rattle.room_model.proofs.MoveFolds.{by_ask}
 use Rattle.room_model.specs.Calls.{call_in, call_kept, call_new, call_somewhere, call_taken}
 use Rattle.room_model.specs.Calls.{new_call}
 use Rattle.room_model.specs.CrewJobs.{job_in}
-use Rattle.room_model.specs.DayTimes.{show_times}
+use Rattle.room_model.specs.ClosedIncidents.{show_closed}
+use Rattle.room_model.specs.DayTimes.{show_class_times, show_times}
 use Rattle.room_model.specs.Decisions.{Verdict, answer_of, refuse_if, where_active, where_found}
 use Rattle.room_model.specs.Decisions.{where_held}
 use Rattle.room_model.specs.Incidents.{change_needs, close, merge, merge_of, show_incident}
@@ -149,7 +150,8 @@ module _ (r : Room) where
   desk_refuses : (d : ℕ) (a : Ask) (at : ℕ) → is_of_role (Desk d) a ≡ true
       → Refuses (desk_asks d a at r)
   unfolding show_incidents show_incident show_vehicles show_reports show_queue show_points show_loans show_offers
-      show_times propose mobilise change_needs merge close stand_down standby duty off lend withdraw decline accept recall give_back clear
+      show_times show_class_times show_closed propose mobilise change_needs merge close stand_down standby duty off lend
+      withdraw decline accept recall give_back clear
   desk_refuses d (ask.Call f) at h = cc
   desk_refuses d (ask.Moves ms) at h = course_refuses d (moves_in ms) at r
   desk_refuses d a at h = first_of (cc, search by_form depth 9)

@@ -9,6 +9,7 @@ use Rattle.room_types.specs.Keys.{owns_assignment, owns_loan, owns_offer, owns_p
 use Rattle.room_types.specs.Keys.{pair_cmp, point_key, vehicle_key}
 use Rattle.room_types.specs.KeyLemmas.{callsigns_total, exact_pair, pairs_total}
 use Rattle.room_types.specs.declared.asks.Ask.{Ask}
+use Rattle.room_types.specs.declared.asks.Search.{Search}
 use Rattle.room_types.specs.declared.codes.Kind.{Kind}
 use Rattle.room_types.specs.declared.tables.Call.{Call}
 use Rattle.room_types.specs.declared.tables.Incident.{Incident}
@@ -19,6 +20,7 @@ use Rattle.room_types.specs.Texts.{Callsign}
 use Rattle.room_model.proofs.Tests.{filter_filter, is_equal, keep_keep, keep_row, left_true}
 use Rattle.room_model.proofs.Tests.{or_left, or_right}
 use Rattle.room_model.specs.Proposals.{eligible}
+use Rattle.room_model.specs.ClosedIncidents.{incidents_found}
 use Rattle.room_model.specs.Queries.{active_incidents, all_held, assignment_of, borrowed, calls_of}
 use Rattle.room_model.specs.Queries.{held, holders, incident_of, incidents_opened, is_attended}
 use Rattle.room_model.specs.Queries.{lent, loans_of, offered_by, offered_to, offers_of, open_turn}
@@ -93,6 +95,10 @@ pub record SeesAsked (d : ℕ) (a : Ask) (at : ℕ) (s r : Room) : Type 0 where
       Among i (active_incidents d r) → calls_of d i.number s ≡ calls_of d i.number r
   pub same_opened : (from to : ℤ) → a ≡ ask.Times from to →
       incidents_opened d from to s ≡ incidents_opened d from to r
+  pub same_classes : (from to : ℤ) → a ≡ ask.ClassTimes from to →
+      incidents_opened d from to s ≡ incidents_opened d from to r
+  pub same_found : (from to : ℤ) (x : Search) → a ≡ ask.Closed from to x →
+      incidents_found d from to x.sought s ≡ incidents_found d from to x.sought r
   pub same_entries : a ≡ ask.Queue → entries d at s ≡ entries d at r
   -- tables that it reads whole
   pub same_all_held : ((k : Callsign) → reads_vehicle a k ≡ true) → all_held d s ≡ all_held d r

@@ -60,6 +60,21 @@ pub filter_filter : {X : Type 0} (p q : X → Bool) (xs : List X) → Implies p 
     → filter p (filter q xs) ≡ filter p xs
 filter_filter p q xs f = filter_among p q xs (λ x a. f x)
 
+-- two filters, one way round and the other
+turned_at : {X : Type 0} (p q : X → Bool) (x : X) (us vs : List X) (y z : Bool) → p x ≡ y
+    → q x ≡ z → filter p us ≡ filter q vs
+    → filter p (cond z (x ∷ us) us) ≡ filter q (cond y (x ∷ vs) vs)
+turned_at p q x us vs true true e f h = rw (e, f) (ap (λ ws. x ∷ ws) h)
+turned_at p q x us vs true false e f h = rw f h
+turned_at p q x us vs false true e f h = rw e h
+turned_at p q x us vs false false e f h = h
+
+pub filters_turned : {X : Type 0} (p q : X → Bool) (xs : List X)
+    → filter p (filter q xs) ≡ filter q (filter p xs)
+filters_turned p q [] = refl
+filters_turned p q (x ∷ xs) =
+    turned_at p q x (filter q xs) (filter p xs) (p x) (q x) refl refl (filters_turned p q xs)
+
 any_one : {X : Type 0} (b : Bool) (p : X → Bool) (x : X) (xs ys : List X) → (p x ≡ true → b ≡ true)
     → list_any p xs ≡ list_any p ys → list_any p (cond b (x ∷ xs) xs) ≡ list_any p (x ∷ ys)
 any_one true p x xs ys f h = ap (λ z. p x || z) h

@@ -29,8 +29,7 @@ use Rattle.room_model.specs.Loans.{recall, recall_lent, withdraw, withdrawn}
 use Rattle.room_model.specs.Queries.{borrowed, held, lent, offered_by, offered_to}
 use Rattle.room_model.specs.Room.{Room, apply, apply_one}
 use Rattle.room_model.specs.Run.{room_run}
-use Rattle.room_model.specs.Step.{decided, desk_asks, position_asks, room_after}
-use Rattle.room_model.specs.Step.{who_asks}
+use Rattle.room_model.specs.Step.{decided, desk_asks, position_asks, room_after, who_asks}
 use Rattle.room_model.specs.RoomAgreements.{IsWellFormed, LoanAgrees}
 use Rattle.room_types.specs.declared.asks.Ask.TheVariants as ask
 

@@ -32,9 +32,8 @@ use Rattle.room_model.proofs.Tests.{row_among, row_key}
 use Rattle.room_model.specs.Proposals.{eligible}
 use Rattle.room_model.specs.Queries.{active_incidents, all_held, assignment_of, borrowed, calls_of}
 use Rattle.room_model.specs.Queries.{held, holders, incident_of, is_attended, is_given, lent}
-use Rattle.room_model.specs.Queries.{loans_of}
-use Rattle.room_model.specs.Queries.{offered_by, offered_to, offers_of, open_turn, point_of}
-use Rattle.room_model.specs.Queries.{points_of, report_of, served, turns_of}
+use Rattle.room_model.specs.Queries.{loans_of, offered_by, offered_to, offers_of, open_turn}
+use Rattle.room_model.specs.Queries.{point_of, points_of, report_of, served, turns_of}
 use Rattle.room_model.specs.RoomAgreements.{IsWellFormed, OpenAgrees, TurnAgrees, TurnIsActive}
 use Rattle.room_model.specs.Room.{Room}
 use Rattle.room_model.specs.WorkingRows.{is_last_turn, names_incident, names_opening, names_turn}

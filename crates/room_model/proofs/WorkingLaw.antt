@@ -2,14 +2,17 @@
 use Rattle.std.proofs.Common.{ap, eq-eqb, subst, sym}
 use Rattle.std.specs.Ordering.{is_eq}
 use Rattle.std.specs.Prelude.{Some, not, refl, true, ℕ, ℤ, ◌&&◌, ◌==◌, ◌≡◌}
-use Rattle.room_types.specs.Codes.{is_merged}
+use Rattle.room_types.specs.Codes.{is_active, is_merged}
 use Rattle.room_types.specs.Keys.{numbered_cmp, report_key, same_callsign}
 use Rattle.room_types.specs.KeyLemmas.{exact_numbered}
 use Rattle.room_types.specs.declared.asks.Ask.{Ask}
+use Rattle.room_types.specs.declared.asks.Search.{Search}
+use Rattle.room_types.specs.declared.asks.Sought.TheVariants.{Sent}
 use Rattle.room_types.specs.declared.tables.Report.{Report}
 use Rattle.room_types.specs.declared.tables.Vehicle.{Vehicle}
 use Rattle.room_types.specs.Texts.{Callsign}
 use Rattle.room_model.proofs.AskLaws.{asked_same, clear_same, same_self}
+use Rattle.room_model.proofs.FoundIncidents.{found_alike}
 use Rattle.room_model.proofs.Sights.{SeesAsked}
 use Rattle.room_model.proofs.Tests.{both_true, filter_filter, is_equal, left_true, right_true}
 use Rattle.room_model.proofs.WorkingDesk.{active_incidents_read, all_held_read, assignment_read}
@@ -19,12 +22,14 @@ use Rattle.room_model.proofs.WorkingDesk.{offered_by_named, offered_to_named, of
 use Rattle.room_model.proofs.WorkingDesk.{point_named, points_read, report_named, sees_cover}
 use Rattle.room_model.proofs.WorkingDesk.{sees_named, sees_shown, sees_vehicle, turns_read}
 use Rattle.room_model.proofs.WorkingQueue.{entries_read}
-use Rattle.room_model.specs.Queries.{held, incidents_opened, open_turn, reports_of, turns_of}
+use Rattle.room_model.specs.ClosedIncidents.{incidents_found}
+use Rattle.room_model.specs.Queries.{held, incidents_opened, incidents_over, open_turn, reports_of}
+use Rattle.room_model.specs.Queries.{turns_by, turns_of}
 use Rattle.room_model.specs.Queue.{clear, entries}
 use Rattle.room_model.specs.Room.{Room}
 use Rattle.room_model.specs.Step.{single_asks}
 use Rattle.room_model.specs.RoomAgreements.{IsWellFormed}
-use Rattle.room_model.specs.WorkingRows.{reads_incident, reads_report, working}
+use Rattle.room_model.specs.WorkingRows.{is_sought_by, reads_incident, reads_report, working}
 use Rattle.room_types.specs.declared.asks.Ask.TheVariants as ask
 
 opened_read : (d : ℕ) (from to : ℤ) (at : ℕ) (r : Room)
@@ -33,6 +38,32 @@ unfolding incidents_opened
 opened_read d from to at r =
     filter_filter _ (λ i. i.division == d && reads_incident (ask.Times from to) at i) r.incidents
     (λ i g. both_true _ _ (left_true _ _ g) (right_true (not (is_merged i.state)) _ (right_true _ _ g)))
+
+classes_read : (d : ℕ) (from to : ℤ) (at : ℕ) (r : Room)
+    → incidents_opened d from to (working d (ask.ClassTimes from to) at r) ≡ incidents_opened d from to r
+unfolding incidents_opened
+classes_read d from to at r =
+    filter_filter _ (λ i. i.division == d && reads_incident (ask.ClassTimes from to) at i) r.incidents
+    (λ i g. both_true _ _ (left_true _ _ g) (right_true (not (is_merged i.state)) _ (right_true _ _ g)))
+
+-- ---- a search, by the incidents of its seconds and the turns of its vehicle
+module _ (d : ℕ) (from to : ℤ) (x : Search) (at : ℕ) (r : Room) where
+  over_read : incidents_over d from to (working d (ask.Closed from to x) at r) ≡ incidents_over d from to r
+  unfolding incidents_over
+  over_read =
+      filter_filter _ (λ i. i.division == d && reads_incident (ask.Closed from to x) at i) r.incidents
+      (λ i g. both_true _ _ (left_true _ _ g) (right_true (not (is_active i.state)) _ (right_true _ _ g)))
+
+  turns_by_read : (c : Callsign) → x.sought ≡ Sent c
+      → turns_by d c (working d (ask.Closed from to x) at r) ≡ turns_by d c r
+  unfolding turns_by
+  turns_by_read c e =
+      filter_filter _ (λ t. t.division == d && is_sought_by x.sought t) r.turns
+      (λ t g. subst (λ y. (t.division == d && is_sought_by y t) ≡ true) (sym e) g)
+
+  found_read : incidents_found d from to x.sought (working d (ask.Closed from to x) at r)
+      ≡ incidents_found d from to x.sought r
+  found_read = found_alike d (working d (ask.Closed from to x) at r) r from to x.sought over_read turns_by_read
 
 reports_read : (d : ℕ) (c : Callsign) (at : ℕ) (r : Room)
     → reports_of d c (working d (ask.Reports c) at r) ≡ reports_of d c r
@@ -74,13 +105,21 @@ module _ (d at : ℕ) (r : Room) (formed : IsWellFormed r) where
         subst (λ x. reports_of d c (working d x at r) ≡ reports_of d c r) (sym e) (reports_read d c at r);
     incident = sees_named d a at r formed;
     same_calls = λ n e calls. calls_read d a at r formed n calls (number_named d a at r formed n e);
-    same_turns = λ n e. subst (λ x. turns_of d n (working d x at r) ≡ turns_of d n r) (sym e) (turns_read d at r formed n);
+    same_turns =
+        λ n e. subst (λ x. turns_of d n (working d x at r) ≡ turns_of d n r) (sym e) (turns_read d at r formed n);
     same_active = active_incidents_read d a at r formed;
     active = sees_shown d a at r formed;
     same_active_calls = calls_shown d a at r formed;
     same_opened = λ from to e.
         subst (λ x. incidents_opened d from to (working d x at r) ≡ incidents_opened d from to r) (sym e)
         (opened_read d from to at r);
+    same_classes = λ from to e.
+        subst (λ x. incidents_opened d from to (working d x at r) ≡ incidents_opened d from to r) (sym e)
+        (classes_read d from to at r);
+    same_found = λ from to x e.
+        subst (λ y. incidents_found d from to x.sought (working d y at r) ≡ incidents_found d from to x.sought r)
+        (sym e)
+        (found_read d from to x at r);
     same_entries = λ e.
         subst (λ x. entries d at (working d x at r) ≡ entries d at r) (sym e) (entries_read d at r formed);
     same_all_held = all_held_read d a at r formed;

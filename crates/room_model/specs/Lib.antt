@@ -44,6 +44,7 @@ pub mod Loans
 pub mod Points
 pub mod Queue
 pub mod DayTimes
+pub mod ClosedIncidents
 -- a crew's asks
 pub mod Reports
 pub mod CrewJobs
@@ -69,3 +70,4 @@ pub mod ReportExamples
 pub mod ProposalExamples
 pub mod QueueExamples
 pub mod TimesExamples
+pub mod ClosedExamples

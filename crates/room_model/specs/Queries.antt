@@ -78,11 +78,20 @@ incident_of d n r = row_at pair_cmp incident_key r.incidents (d, n)
 unfoldable pub active_incidents : ℕ → Room → List Incident
 active_incidents d r = filter (λ i. i.division == d && is_active i.state) r.incidents
 
--- the active and closed incidents opened from one moment and before another
+-- the incident was opened from one moment on and before another
+abbrev pub is_opened_within : ℤ → ℤ → Incident → Bool
+is_opened_within from to i = int_le from (pos i.opened) && int_lt (pos i.opened) to
+
+-- the active and closed incidents that were opened then
 unfoldable pub incidents_opened : ℕ → ℤ → ℤ → Room → List Incident
 incidents_opened d from to r = filter
-    (λ i. i.division == d
-    && (not (is_merged i.state) && (int_le from (pos i.opened) && int_lt (pos i.opened) to)))
+    (λ i. i.division == d && (not (is_merged i.state) && is_opened_within from to i))
+    r.incidents
+
+-- those that are over, so closed or merged, and were opened then
+unfoldable pub incidents_over : ℕ → ℤ → ℤ → Room → List Incident
+incidents_over d from to r = filter
+    (λ i. i.division == d && (not (is_active i.state) && is_opened_within from to i))
     r.incidents
 
 -- the calls that belong to an incident now
@@ -99,6 +108,10 @@ is_given calls n = list_any (λ c. c.given == n) calls
 unfoldable pub turns_of : ℕ → ℕ → Room → List Turn
 turns_of d n r =
     filter (λ t. t.division == d && (t.incident == n || is_given (calls_of d n r) t.incident)) r.turns
+
+-- the vehicle's turns in the division
+unfoldable pub turns_by : ℕ → Callsign → Room → List Turn
+turns_by d c r = filter (λ t. t.division == d && same_callsign c t.callsign) r.turns
 
 -- the number that the division gave last
 unfoldable pub last_number : ℕ → Room → Option Division

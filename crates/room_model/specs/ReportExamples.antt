@@ -1,7 +1,6 @@
 -- Reports: what a button comes to, what a repeated, late, stale or wrong report changes, and who
 -- clears it.
-use Rattle.std.specs.Prelude.{Err, None, Ok, Option, Some, [], false, option_map, true}
-use Rattle.std.specs.Prelude.{ℕ, ◌∷◌, ◌≡◌}
+use Rattle.std.specs.Prelude.{Err, None, Ok, Option, Some, [], false, option_map, true, ℕ, ◌∷◌, ◌≡◌}
 use Rattle.room_types.specs.declared.answers.Answer.TheVariants as answer
 use Rattle.room_types.specs.declared.asks.Ask.TheVariants as ask
 use Rattle.room_types.specs.declared.asks.Event.{Event}

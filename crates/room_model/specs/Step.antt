@@ -1,7 +1,7 @@
 -- What the room decides, and the room after it.
 use Rattle.std.specs.Prelude.{Bool, Err, List, None, Ok, Option, Result, Some, [], false}
-use Rattle.std.specs.Prelude.{filter_map, is_some, nat_le, true, ℕ, ◌&&◌, ◌++◌, ◌==◌, ◌||◌}
-use Rattle.std.specs.Prelude.{◌∷◌, ◌≡◌}
+use Rattle.std.specs.Prelude.{filter_map, is_some, nat_le, true, ℕ, ◌&&◌, ◌++◌, ◌==◌, ◌||◌, ◌∷◌}
+use Rattle.std.specs.Prelude.{◌≡◌}
 use Rattle.room_place.specs.Plans.{has_division}
 use Rattle.room_types.specs.declared.answers.Answer.{Answer}
 use Rattle.room_types.specs.declared.answers.Answer.TheVariants as answer
@@ -19,7 +19,8 @@ use Rattle.room_types.specs.RefusalStatuses.{refusal_number}
 use Rattle.room_types.specs.Texts.{Callsign}
 use Rattle.room_model.specs.Calls.{new_call, show_last_serial, take_call}
 use Rattle.room_model.specs.CrewJobs.{show_job}
-use Rattle.room_model.specs.DayTimes.{show_times}
+use Rattle.room_model.specs.ClosedIncidents.{show_closed}
+use Rattle.room_model.specs.DayTimes.{show_class_times, show_times}
 use Rattle.room_model.specs.Decisions.{Decides, Verdict, answer_of, changes_of, with_changes}
 use Rattle.room_model.specs.Incidents.{change_needs, close, merge, show_incident, show_incidents}
 use Rattle.room_model.specs.Loans.{accept, decline, give_back, lend, recall, show_loans}
@@ -64,6 +65,8 @@ single_asks d (ask.SetPoint n place cover) at r = set_point d n place cover
 single_asks d ask.Loans at r = show_loans d r
 single_asks d ask.Offers at r = show_offers d r
 single_asks d (ask.Times from to) at r = show_times d from to r
+single_asks d (ask.ClassTimes from to) at r = show_class_times d from to r
+single_asks d (ask.Closed from to x) at r = show_closed d from to x r
 single_asks d ask.Order at r = Err refusal.WrongRole
 single_asks d ask.Job at r = Err refusal.WrongRole
 single_asks d (ask.Report p) at r = Err refusal.WrongRole
@@ -176,6 +179,7 @@ may_lack_memory ask.Points = true
 may_lack_memory ask.Loans = true
 may_lack_memory ask.Offers = true
 may_lack_memory (ask.Times from to) = true
+may_lack_memory (ask.Closed from to x) = true
 may_lack_memory a = false
 
 -- what the code decides of a desk's ask: what the machine does, and exactly that where no list is

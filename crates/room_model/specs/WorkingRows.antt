@@ -2,8 +2,8 @@
 -- it.
 use Rattle.std.specs.Int.{abs_diff}
 use Rattle.std.specs.Ordering.{is_eq}
-use Rattle.std.specs.Prelude.{Bool, None, Option, Some, false, filter, int_le, int_lt, is_some}
-use Rattle.std.specs.Prelude.{nat_le, not, pos, true, ℕ, ◌&&◌, ◌==◌, ◌||◌}
+use Rattle.std.specs.Prelude.{Bool, None, Option, Some, false, filter, is_some, nat_le, not, true}
+use Rattle.std.specs.Prelude.{ℕ, ◌&&◌, ◌==◌, ◌||◌}
 use Rattle.room_place.specs.declared.places.Place.{Place}
 use Rattle.room_types.specs.Codes.{is_active, is_exception}
 use Rattle.room_types.specs.KeyedRows.{keep}
@@ -17,9 +17,11 @@ use Rattle.room_types.specs.declared.tables.Report.{Report}
 use Rattle.room_types.specs.declared.tables.Turn.{Turn}
 use Rattle.room_types.specs.declared.tables.Vehicle.{Vehicle}
 use Rattle.room_model.specs.Moments.{age, link_metres, link_seconds}
-use Rattle.room_model.specs.Queries.{calls_of, held, incident_of, is_given}
+use Rattle.room_model.specs.Queries.{calls_of, held, incident_of, is_given, is_opened_within}
 use Rattle.room_model.specs.Room.{Room}
 use Rattle.room_types.specs.declared.asks.Ask.TheVariants as ask
+use Rattle.room_types.specs.declared.asks.Sought.{Sought}
+use Rattle.room_types.specs.declared.asks.Sought.TheVariants.{Sent}
 
 -- ---- what stands beside the incidents
 -- a call may take the division's next number
@@ -134,10 +136,12 @@ abbrev pub is_around : Place → Place → Bool
 is_around p q =
     nat_le (abs_diff p.east q.east) link_metres && nat_le (abs_diff p.north q.north) link_metres
 
--- the ask is for times that its opening lies in, or a call at `at` that may be linked to it: it was
+-- the ask is for seconds that its opening lies in, or a call at `at` that may be linked to it: it was
 -- opened then, around the call's place
 abbrev pub names_opening : Ask → ℕ → Incident → Bool
-names_opening (ask.Times from to) at i = int_le from (pos i.opened) && int_lt (pos i.opened) to
+names_opening (ask.Times from to) at i = is_opened_within from to i
+names_opening (ask.ClassTimes from to) at i = is_opened_within from to i
+names_opening (ask.Closed from to x) at i = is_opened_within from to i
 names_opening (ask.Call f) at i = nat_le (age at i.opened) link_seconds && is_around i.place f.place
 names_opening a at i = false
 
@@ -166,12 +170,18 @@ is_last_turn None t = false
 is_last_turn (Some v) t =
     nat_le 1 v.last_order && is_eq (numbered_cmp (v.callsign, v.last_order) (turn_key t))
 
--- the turn of the named vehicle's last order, or one of another incident, which was merged into the
--- named one
+-- the turn is one of a vehicle by which incidents are sought
+abbrev pub is_sought_by : Sought → Turn → Bool
+is_sought_by (Sent c) t = same_callsign c t.callsign
+is_sought_by x t = false
+
+-- the turn of the named vehicle's last order, one of another incident, which was merged into the
+-- named one, or one of the vehicle by which incidents are sought
 abbrev pub names_turn : ℕ → Ask → Room → Turn → Bool
 names_turn d (ask.StandDown c) r t = is_last_turn (held d c r) t
 names_turn d (ask.Incident n) r t =
     not (n == t.incident) && is_given (calls_of d n r) t.incident
+names_turn d (ask.Closed from to x) r t = is_sought_by x.sought t
 names_turn d a r t = false
 
 -- the rows of division d's share that an ask at a moment reads

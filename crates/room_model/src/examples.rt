@@ -2,6 +2,7 @@
 //! that the machine answers as the rules say, in rooms small enough to be followed by hand. Steps
 //! that an independent program sampled from random runs stand in `room_samples`.
 ghost use Rattle.room_model.specs.CallExamples.{CallExamples};
+ghost use Rattle.room_model.specs.ClosedExamples.{ClosedExamples};
 ghost use Rattle.room_model.specs.IncidentExamples.{IncidentExamples};
 ghost use Rattle.room_model.specs.JobExamples.{JobExamples};
 ghost use Rattle.room_model.specs.MoveExamples.{MoveExamples};
@@ -71,4 +72,9 @@ pub fn queue_examples()
 /// The times of a day.
 pub fn times_examples()
     ensures { TimesExamples }
+{}
+
+/// What is found of incidents that are over, and the times of a day by class.
+pub fn closed_examples()
+    ensures { ClosedExamples }
 {}

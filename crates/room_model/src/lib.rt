@@ -10,6 +10,7 @@
 //! - `agreement_laws`: what always holds of a room.
 //! - `first_version_laws`: how a room goes on that was kept before loans were offered.
 //! - `move_laws`: what a desk asks for at once, all or none.
+//! - `closed_laws`: what a search finds, page by page, and the times of a day by class.
 //! - `refusal_laws`: which refusals there are.
 //! - `repeat_laws`: what changes nothing, a refusal and a message that is sent again.
 //! - `choice_laws`: why a list that is proposed or queued is the only one.
@@ -20,6 +21,7 @@
 
 pub mod agreement_laws;
 pub mod choice_laws;
+pub mod closed_laws;
 pub mod crew_laws;
 pub mod digests;
 pub mod examples;

@@ -28,6 +28,7 @@ all_nothing : (x : Incidents) (y : Reports) (z : Turns) â†’ is_of_fleet x y z â‰
 all_nothing incidents.Nothing reports.Nothing turns.Nothing is = (refl, refl, refl)
 all_nothing incidents.Nothing reports.Nothing (turns.Last c) is = absurd (cc)
 all_nothing incidents.Nothing reports.Nothing (turns.Merged n) is = absurd (cc)
+all_nothing incidents.Nothing reports.Nothing (turns.Of c) is = absurd (cc)
 all_nothing incidents.Nothing reports.Uncleared z is = absurd (cc)
 all_nothing incidents.Nothing (reports.One r) z is = absurd (cc)
 all_nothing incidents.Nothing (reports.Of c) z is = absurd (cc)

@@ -139,6 +139,7 @@ calls_read d a at room (turns.Merged n) history =
     rw history (filter_as _ _ room.calls (λ c. ap (λ b. (c.division == d) && b) (same_back n c.incident)))
 calls_read d a at room turns.Nothing history = tt
 calls_read d a at room (turns.Last c) history = tt
+calls_read d a at room (turns.Of c) history = tt
 
 -- a division's row of one of two numbers
 pub one_of_two : (own b c : Bool) → (own && b) || ((own && c) || false) ≡ own && (b || c)

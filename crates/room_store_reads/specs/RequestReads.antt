@@ -1,7 +1,6 @@
 -- What a request reads: how much of each table, of its division's rows.
 use Rattle.std.specs.Ordering.{nat_cmp}
-use Rattle.std.specs.Prelude.{Bool, List, false, int_le, int_lt, is_some, not, pos, true, ℕ, ◌&&◌}
-use Rattle.std.specs.Prelude.{◌==◌, ◌||◌, ◌≡◌}
+use Rattle.std.specs.Prelude.{Bool, List, false, is_some, not, true, ℕ, ◌&&◌, ◌==◌, ◌||◌, ◌≡◌}
 use Rattle.room_types.specs.KeyedRows.{keep}
 use Rattle.room_types.specs.Codes.{is_active, is_exception}
 use Rattle.room_types.specs.Keys.{callsign_cmp, pair_cmp, same_callsign}
@@ -12,12 +11,13 @@ use Rattle.room_types.specs.declared.tables.Call.{Call}
 use Rattle.room_types.specs.declared.tables.Incident.{Incident}
 use Rattle.room_types.specs.declared.tables.Report.{Report}
 use Rattle.room_types.specs.declared.tables.Turn.{Turn}
-use Rattle.room_model.specs.Queries.{calls_of, held, incident_of, is_given}
+use Rattle.room_model.specs.Queries.{calls_of, held, incident_of, is_given, is_opened_within}
 use Rattle.room_model.specs.Room.{Room}
-use Rattle.room_model.specs.WorkingRows.{is_last_turn, names_incident, names_opening, names_report}
-use Rattle.room_model.specs.WorkingRows.{names_turn, reads_active, reads_assignments, reads_calls}
-use Rattle.room_model.specs.WorkingRows.{reads_division, reads_exceptions, reads_loan, reads_offer}
-use Rattle.room_model.specs.WorkingRows.{reads_point, reads_vehicle}
+use Rattle.room_model.specs.WorkingRows.{is_last_turn, names_incident}
+use Rattle.room_model.specs.WorkingRows.{names_opening, names_report, names_turn, reads_active}
+use Rattle.room_model.specs.WorkingRows.{reads_assignments, reads_calls, reads_division}
+use Rattle.room_model.specs.WorkingRows.{reads_exceptions, reads_loan, reads_offer, reads_point}
+use Rattle.room_model.specs.WorkingRows.{reads_vehicle}
 use Rattle.room_store_reads.specs.Selections.{reaches}
 use Rattle.room_store_reads.specs.declared.request_reads.Incidents.{Incidents}
 use Rattle.room_store_reads.specs.declared.request_reads.Incidents.TheVariants as incidents
@@ -40,7 +40,7 @@ names x n = false
 
 -- an incident that was opened then, or that a call at `at` may be linked to
 abbrev pub opens : Incidents → ℕ → Incident → Bool
-opens (incidents.Opened from to) at i = int_le from (pos i.opened) && int_lt (pos i.opened) to
+opens (incidents.Opened from to) at i = is_opened_within from to i
 opens (incidents.Near form) at i = names_opening (ask.Call form) at i
 opens x at i = false
 
@@ -80,11 +80,13 @@ is_report (reports.Of k) x = names_one (reports.Of k) x.callsign x.number
 abbrev pub is_merged : ℕ → List Call → ℕ → Bool
 is_merged n calls m = not (n == m) && is_given calls m
 
--- the turn of the last order of the vehicle, or one of an incident that was merged into this one
+-- the turn of the last order of the vehicle, one of an incident that was merged into this one, or
+-- one of the vehicle
 abbrev pub is_turn_of : ℕ → Turns → Room → Turn → Bool
 is_turn_of d turns.Nothing room t = false
 is_turn_of d (turns.Last c) room t = is_last_turn (held d c room) t
 is_turn_of d (turns.Merged n) room t = is_merged n (calls_of d n room) t.incident
+is_turn_of d (turns.Of c) room t = same_callsign c t.callsign
 
 -- these are the calls that say which were merged
 abbrev pub AreCallsFor : ℕ → Turns → Room → List Call → Type 0

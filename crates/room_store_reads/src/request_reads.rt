@@ -1,13 +1,18 @@
 //! What a request reads of the rows of its division: one table, a row a request.
-ghost use Rattle.std.specs.Prelude.{◌≡◌};
-ghost use Rattle.room_store_reads.specs.RequestReads.{Selects, is_of_fleet};
+ghost use Rattle.std.specs.Prelude.{◌≡◌, ℕ};
+ghost use Rattle.room_types.specs.declared.asks.Ask.{Ask as AskModel};
+ghost use Rattle.room_types.specs.declared.tables.Turn.{Turn};
+ghost use Rattle.room_model.specs.Room.{Room};
+ghost use Rattle.room_model.specs.WorkingRows.{is_sought_by};
+ghost use Rattle.room_store_reads.specs.RequestReads.{IsAskedFor, Selects, is_of_fleet};
+ghost use Rattle.room_store_reads.specs.RequestReads.{is_turn_of};
 
 use self::Incidents::{Active, Near, One, Opened, Two};
 use self::Reports::Uncleared;
 use crate::selections::Selection;
 use crate::selections::Selection::{Everything as All, One as Key};
 use room_place::plans::DivisionNumber;
-use room_types::asks::{Ask, CallForm};
+use room_types::asks::{Ask, CallForm, Sought};
 use room_types::callsign::Callsign;
 use room_types::numbers::{Number, PointNumber};
 
@@ -62,6 +67,8 @@ pub enum Turns {
     Last(Callsign),
     /// Those of the incidents that were merged into the one that is named, whose calls are read.
     Merged(Number),
+    /// All of a vehicle.
+    Of(Callsign),
 }
 
 impl Reads {
@@ -141,12 +148,27 @@ pub fn reads_of(division: DivisionNumber, ask: &Ask) -> Reads
         Ask::Points => row!(vehicles: All, points: All),
         Ask::Loans => row!(loans: All),
         Ask::Offers => row!(offers: All),
-        Ask::Times(from, to) => row!(incidents: Opened(from, to)),
+        Ask::Times(from, to) | Ask::ClassTimes(from, to) => row!(incidents: Opened(from, to)),
+        Ask::Closed(from, to, search) => {
+            row!(incidents: Opened(from, to), turns: turns_sought(&search.sought))
+        }
         Ask::SetPoint(_, _, _)
         | Ask::Moves(_)
         | Ask::Order
         | Ask::Job
         | Ask::Report(_)
         | Ask::Last => NOTHING,
+    }
+}
+
+// The turns by which it is known whether a vehicle was sent to an incident that is sought.
+fn turns_sought(sought: &Sought) -> Turns
+    ensures turn { (division : ℕ) (room : Room) (t : Turn)
+        → is_sought_by sought.now t ≡ is_turn_of division result room t }
+    ensures history { (ask : AskModel) → IsAskedFor result ask }
+{
+    match *sought {
+        Sought::Sent(callsign) => Turns::Of(callsign),
+        Sought::All | Sought::Near(_, _) => Turns::Nothing,
     }
 }

@@ -31,6 +31,7 @@ use room_store_cache::cached_rows::own_rows;
 use room_store_cache::fleets::FleetRows;
 use room_store_cache::history_rows::HistoryRows;
 use room_tables::report_table::reports_of;
+use room_tables::turn_table::vehicle_turns;
 use room_tables_schema::database_faults::Fault;
 use room_types::callsign::Callsign;
 use room_types::codes::Outcome;
@@ -245,6 +246,7 @@ fn other_turns<S: Alter>(
             let none = Rows::new(alloc);
             load_parts::<Turn, S>(alloc, conn, known, division, numbers.as_slice(), none)
         }
+        Turns::Of(callsign) => vehicle_turns(alloc, conn, division, &callsign),
     }
 }
 

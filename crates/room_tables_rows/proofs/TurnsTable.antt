@@ -10,7 +10,7 @@ use Rattle.room_tables_rows.specs.Tables.{SelectsChosen}
 use Rattle.room_tables_rows.specs.TurnSql.{turn_row}
 use Rattle.room_tables_rows.specs.declared.turn_sql.TheConstants.{ALL_TURNS, INSERT_TURN}
 use Rattle.room_tables_rows.specs.declared.turn_sql.TheConstants.{OVERWRITE_TURN, PUT_TURN}
-use Rattle.room_tables_rows.specs.declared.turn_sql.TheConstants.{TURNS_OF, TURN_AT}
+use Rattle.room_tables_rows.specs.declared.turn_sql.TheConstants.{TURNS_OF, TURN_AT, VEHICLE_TURNS}
 use Rattle.room_tables_schema.proofs.ColumnValues.{AreKept, cast-Int, cast-number_or_null}
 use Rattle.room_tables_schema.proofs.Comparisons.{and_last, and_then, conflict_of_two}
 use Rattle.room_tables_schema.proofs.Comparisons.{equal-numbers, is_eq-then, tie-numbers, tie-texts}
@@ -99,6 +99,31 @@ pub turns_of_are : (d n : ℕ)
 turns_of_are d n =
     chosen_rows turns_held TURNS_OF.now (number n ∷ number d ∷ []) (λ x. x.incident == n && x.division == d)
     (turns_of_chooses d n)
+
+pub vehicle_turns_means : Selects room_schema VEHICLE_TURNS.now 11
+    (1 ∷ 2 ∷ 3 ∷ 4 ∷ 5 ∷ 6 ∷ 7 ∷ 8 ∷ 9 ∷ 10 ∷ 11 ∷ 12 ∷ []) (1 ∷ 2 ∷ []) (equals 1 0 ∷ equals 3 1 ∷ [])
+unfolding understood everything
+vehicle_turns_means = record { names = _; command = refl; plain = (refl, refl); unlisted = refl }
+
+pub vehicle_turns_chooses : (c : Callsign) (d : ℕ)
+    → SelectsChosen turns_table turn_row VEHICLE_TURNS.now (Text c ∷ number d ∷ [])
+    (λ x. is_eq (callsign_cmp c x.callsign) && x.division == d)
+vehicle_turns_chooses c d = record {
+  terms = equals 1 0 ∷ equals 3 1 ∷ [];
+  selects = vehicle_turns_means;
+  chooses = record {
+    test = λ r. equal Binary (column r 0) (Text c) && equal Binary (column r 2) (number d);
+    agrees = λ r. and_then refl (and_last refl);
+    same = λ x. and_then (tie-texts x.callsign c) (equal-numbers x.division d);
+  };
+}
+
+pub vehicle_turns_are : (c : Callsign) (d : ℕ)
+    → Shows turn_row VEHICLE_TURNS.now (Text c ∷ number d ∷ [])
+    (λ found config room. found ≡ filter (λ x. is_eq (callsign_cmp c x.callsign) && x.division == d) room.turns)
+vehicle_turns_are c d =
+    chosen_rows turns_held VEHICLE_TURNS.now (Text c ∷ number d ∷ [])
+    (λ x. is_eq (callsign_cmp c x.callsign) && x.division == d) (vehicle_turns_chooses c d)
 
 pub put_turn_means : Upserts room_schema PUT_TURN.now 7 turns_table (1 ∷ 2 ∷ []) 12 (row_values 12) (row_update 12)
 unfolding understood everything

@@ -70,6 +70,9 @@ pub const TURN_AT: &str =
 pub const TURNS_OF: &str =
     "SELECT * FROM turns WHERE incident = ?1 AND division = ?2 ORDER BY callsign, ord";
 
+pub const VEHICLE_TURNS: &str =
+    "SELECT * FROM turns WHERE callsign = ?1 AND division = ?2 ORDER BY callsign, ord";
+
 pub const INSERT_TURN: &str =
     "INSERT INTO turns VALUES (?1, ?2, ?3, ?4, ?5, ?6, ?7, ?8, ?9, ?10, ?11, ?12)";
 

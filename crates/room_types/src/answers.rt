@@ -186,6 +186,38 @@ pub struct Times {
     pub lines: Listed<TimesLine>,
 }
 
+/// How many incidents of a class a day has, merged ones left out, and how many of them had an order.
+#[derive(Clone, Copy)]
+pub struct ClassLine {
+    pub class: Class,
+    pub opened: u64,
+    /// How many have had an order.
+    pub activated: u64,
+    /// How many had one within 180 seconds.
+    pub within: u64,
+}
+
+/// How many classes there are.
+pub const CLASSES: usize = 3;
+
+/// The times of a day by class, the most urgent first.
+#[derive(Clone, Copy)]
+pub struct ClassTimes {
+    /// Seconds since 1970 in UTC: the first of the day.
+    pub from: i64,
+    /// The first second of the next day.
+    pub to: i64,
+    pub lines: [ClassLine; CLASSES],
+}
+
+/// A page of incidents that are closed, or were merged, in number order.
+#[derive(Drop)]
+pub struct ClosedPage {
+    pub incidents: Listed<Incident>,
+    /// The number of the first incident of the next page, where there is one.
+    pub next: Option<Number>,
+}
+
 /// One variant for each form of answer.
 #[derive(Drop)]
 pub enum Answer {
@@ -207,6 +239,8 @@ pub enum Answer {
     Loans(Listed<Loan>),
     Offers(Listed<Offer>),
     Times(Times),
+    ClassTimes(ClassTimes),
+    Closed(ClosedPage),
     /// The vehicle's order, its post and its status.
     Order(Option<Assignment>, Option<PointNumber>, Status),
     Job(Job),

@@ -3,7 +3,9 @@ use crate::callsign::Callsign;
 use crate::codes::Button;
 use crate::needs::Needs;
 use crate::note::Note;
-use crate::numbers::{Class, Cover, LastNumber, Moment, Number, PointNumber, PositionNumber};
+use crate::numbers::{
+    Class, Cover, LastNumber, Metres, Moment, Number, PointNumber, PositionNumber,
+};
 use room_place::places::Place;
 use room_place::plans::DivisionNumber;
 
@@ -69,6 +71,23 @@ pub struct Moves {
     pub others: [Option<Move>; MORE_MOVES],
 }
 
+/// Which of the incidents of a day that are over are sought.
+#[derive(Clone, Copy)]
+pub enum Sought {
+    All,
+    /// Those that a vehicle was sent to.
+    Sent(Callsign),
+    /// Those at most so far from a place.
+    Near(Place, Metres),
+}
+
+/// A page of the incidents that are sought: those from a number on.
+#[derive(Clone, Copy)]
+pub struct Search {
+    pub sought: Sought,
+    pub first: Number,
+}
+
 /// What is asked: one variant for each path of the HTTP interface.
 #[derive(Clone, Copy)]
 pub enum Ask {
@@ -113,6 +132,10 @@ pub enum Ask {
     /// From a second of UTC since 1970 to another, which is left out. Both may be negative, since a
     /// day of 1970 may begin before it in UTC.
     Times(i64, i64),
+    /// The times of those seconds by class.
+    ClassTimes(i64, i64),
+    /// The incidents that were opened in those seconds and are over.
+    Closed(i64, i64, Search),
     Order,
     /// The order, with its incident's class and the notes of its calls.
     Job,

@@ -14,6 +14,8 @@ pub type Class = Bounded<1, 3>;
 pub type Need = Bounded<0, 9>;
 /// How many vehicles a standby point needs: 0 to 9.
 pub type Cover = Bounded<0, 9>;
+/// How far from a place an incident is sought: 1 to 99999 metres.
+pub type Metres = Bounded<1, 99999>;
 /// The number of a call, a report, an incident or an order: 1 to 2147483647.
 pub type Number = Bounded<1, 2147483647>;
 /// The number that was given last, 0 where none was.

@@ -24,13 +24,13 @@ both : {T E : Type 0} (r : Result T E) (P Q S : T → Type 0) → ((x : T) → P
 both (Ok x) P Q S more p q = more x p q
 both (Err e) P Q S more p q = tt
 
-pub returns-in_ok-_sent-in-Some : goal.returns-in_ok-_sent-in-Some
-returns-in_ok-_sent-in-Some g c =
-    let sent = writes _ _ _ _ _ c.in_ok-_sent-in-Some._sent c.in_ok-_sent-in-Some.ensures in
+pub returns-in-Some : goal.returns-in-Some
+returns-in-Some g c =
+    let sent = writes _ _ _ _ _ c.send-sent.result c.send-sent.ensures in
     both c.hear.result _ _ _
     (λ heard said all.
     on_sides _ _ _ _ _ (c.in-Some.reader, c.in-Some.writer) _ _ heard.items c.in-Some.is (record {
-      after = (c.hear.new.reader, c.send.new.writer);
+      after = (c.hear.new.reader, c.send-sent.new.writer);
       sent = sent.0;
       asks = sent.1;
       said = said;

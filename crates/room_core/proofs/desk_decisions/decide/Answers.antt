@@ -84,3 +84,18 @@ returns-in-Times c =
     let to : FitsSigned w64 c.in-Times.to = search rules in
     rw c.in-Times.is (listed _ _ (rw (to_z-of_z w64 c.in-Times.from from, to_z-of_z w64 c.in-Times.to to) at
     c.day_times.ensures.decides c.args.plan.now.areas))
+
+pub returns-in-ClassTimes : goal.returns-in-ClassTimes
+returns-in-ClassTimes c =
+    let from : FitsSigned w64 c.in-ClassTimes.from = search rules in
+    let to : FitsSigned w64 c.in-ClassTimes.to = search rules in
+    rw c.in-ClassTimes.is (exact _ _
+    (sym (rw (to_z-of_z w64 c.in-ClassTimes.from from, to_z-of_z w64 c.in-ClassTimes.to to) at
+    c.day_class_times.ensures c.args.plan.now.areas)))
+
+pub returns-in-Closed : goal.returns-in-Closed
+returns-in-Closed c =
+    let from : FitsSigned w64 c.in-Closed.from = search rules in
+    let to : FitsSigned w64 c.in-Closed.to = search rules in
+    rw c.in-Closed.is (listed _ _ (rw (to_z-of_z w64 c.in-Closed.from from, to_z-of_z w64 c.in-Closed.to to) at
+    c.closed.ensures c.args.plan.now.areas))

@@ -5,7 +5,7 @@ use Rattle.room_types.specs.Keys.{owns_turn}
 use Rattle.room_tables_schema.proofs.ReadLaws.{begins, lacks_memory, succeeds}
 use Rattle.room_store_cache.proofs.Filters.{filter_as}
 use Rattle.room_store_cache.specs.IncidentNumbers.{contains}
-use Rattle.room_store_reads.proofs.ReadFilters.{filter_never, filter_none}
+use Rattle.room_store_reads.proofs.ReadFilters.{and_swapped, filter_never, filter_none}
 use Rattle.room_store_reads.proofs.Selected.{own_contains}
 use Rattle.room_store_reads.specs.RequestReads.{is_merged}
 use Rattle.room_store_reads.proofs.working_rows.other_turns.Goals as goal
@@ -43,3 +43,10 @@ returns-in_ok-numbers-in-Merged-clause-rows g c clean =
     own_contains (owns_turn c.args.division t) t.incident c.as_slice.result.now
     ∙ ap (λ b. owns_turn c.args.division t && b) (merged t.incident
     ∙ ap (λ cs. is_merged c.in-Merged.number cs t.incident) (rw c.in-Merged.is at calls)))))
+
+pub returns-in-Of-clause-rows : goal.returns-in-Of-clause-rows
+returns-in-Of-clause-rows g c clean =
+    IfOk-weaker c.vehicle_turns.result _ _ (λ x found config room h in_order are calls.
+    rw c.in-Of.is (found config room h
+    ∙ filter_as _ _ room.turns (λ t. and_swapped _ (owns_turn c.args.division t))))
+    (c.vehicle_turns.ensures.rows clean)

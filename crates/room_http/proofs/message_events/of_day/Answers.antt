@@ -3,7 +3,7 @@ use Rattle.std.proofs.lemmas.Int.{to_z-of_z}
 use Rattle.jiff_core.specs.Calendar.{days_from_civil}
 use Rattle.room_http_time.proofs.DayLemmas.{inner_days, midnight_fits}
 use Rattle.room_http_time.specs.Days.{zone_of}
-use Rattle.room_http.proofs.message_events.times.Goals as goal
+use Rattle.room_http.proofs.message_events.of_day.Goals as goal
 
 pub returns : goal.returns
 returns c =
@@ -16,5 +16,5 @@ returns c =
     let to = midnight_fits zone (day +ℤ pos 1) c.unwrap-from.result.1 span.1 inner.1 in (
       c.unwrap-from.result,
       rw (c.year.ensures.value, c.month.ensures.value, c.day.ensures.value) at span,
-      rw (to_z-of_z w64 c.unwrap-from.result.0 from, to_z-of_z w64 c.unwrap-from.result.1 to) refl,
+      rw (to_z-of_z w64 c.unwrap-from.result.0 from, to_z-of_z w64 c.unwrap-from.result.1 to) at c.between.ensures,
     )
