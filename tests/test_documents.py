@@ -15,11 +15,11 @@ from room import TOP, TestCase
 
 # How many words a document has at most, as `wc -w` counts them.
 MOST = {'README': 700, 'CONTRIBUTING': 450, 'SECURITY': 350, 'CHANGELOG': 1125, 'TUTORIAL': 800,
-        'OPERATING': 3005, 'RULES': 2460, 'HTTP': 2820, 'FILES': 3220, 'ARCHITECTURE': 1430,
+        'OPERATING': 3005, 'RULES': 2460, 'HTTP': 2840, 'FILES': 3220, 'ARCHITECTURE': 1430,
         'DECISIONS': 3070, 'JUDGING': 650, 'PROOFS': 2980, 'PROMISES': 6940, 'SCALE': 600,
         'TESTING': 755, 'TRUST': 1910, 'WORKING': 580}
 # README.md and docs/ together, without what tools write; and the long form of the measurements.
-TOGETHER = 19065
+TOGETHER = 19120
 MOST_OF_BENCH = 4500
 MOST_OF_SENTENCE = 25  # words, in the README
 # Pages that say why, and how a sentence begins that has a clause as its subject.
